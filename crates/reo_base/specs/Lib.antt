@@ -1,0 +1,5 @@
+pub mod Adapter
+pub mod Faults
+pub mod Streams
+pub mod SourceState
+pub mod SinkState
