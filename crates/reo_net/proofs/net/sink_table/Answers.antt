@@ -1,0 +1,12 @@
+use Rattle.std.proofs.Common.{length, refl, ◌<◌}
+use Rattle.std.proofs.lemmas.Option.{slice_get_read}
+use Rattle.reo_net.proofs.TableLemmas.{Marks-more, All_read}
+use Rattle.reo_net.proofs.net.sink_table.Goals as goal
+
+pub loop-channel-preserved : goal.loop-channel-preserved
+loop-channel-preserved c =
+    let xs = c.args.channels.now in
+    let within = c.loop-channel-test.true in
+    let read = c.channel-item.is in
+    let fits = All_read (λ channel. channel.b < c.args.nodes) xs _ c.channel-item.result c.requires within read in
+    Marks-more (λ channel. channel.b) xs c.loop-channel.table.items c.args.nodes _ c.channel-item.result (slice_get_read xs (length xs) _ _ refl within read) fits c.loop-channel.invariant

@@ -1,0 +1,9 @@
+pub mod Names
+pub mod Steps
+pub mod Runs
+pub mod Regions
+pub mod Tables
+pub mod Checks
+pub mod Refusals
+pub mod Laws
+pub mod Parts

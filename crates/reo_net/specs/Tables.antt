@@ -1,0 +1,44 @@
+-- Tables that mark numbers, and where a number stands among the first elements of a list.
+use Rattle.std.specs.Prelude.{◌≡◌, ℕ, ◌<◌, Bool, true, false, List, length, slice_get, slice_index_or, Some, Decides}
+use Rattle.reo_value.specs.declared.op.Way.{Way}
+use Rattle.reo_value.specs.declared.op.Way.TheVariants.{Put, Get}
+use Rattle.reo_net.specs.declared.circuit.Port.{Port}
+
+-- for each number below n, whether P holds of it
+pub record Marks (table : List Bool) (n : ℕ) (P : ℕ → Type 0) : Type 0 where
+  pub len : length table ≡ n
+  pub each : (k : ℕ) → k < n → Decides (slice_index_or table k false) (P k)
+
+-- one of the first elements, so many, has this key
+pub record IsKeyBelow {X : Type 0} (key : X → ℕ) (xs : List X) (below k : ℕ) : Type 0 where
+  pub place : ℕ
+  pub element : X
+  pub within : place < below
+  pub found : slice_get xs place ≡ Some element
+  pub keyed : key element ≡ k
+
+-- two of the first elements, so many, have this key
+pub record IsKeyTwiceBelow {X : Type 0} (key : X → ℕ) (xs : List X) (below k : ℕ) : Type 0 where
+  pub place : ℕ
+  pub element : X
+  pub within : place < below
+  pub found : slice_get xs place ≡ Some element
+  pub keyed : key element ≡ k
+  pub before : IsKeyBelow key xs place k
+
+-- one of the first elements, so many, has this key and passes the test
+pub record IsPassBelow {X : Type 0} (key : X → ℕ) (test : X → Bool) (xs : List X) (below k : ℕ) : Type 0 where
+  pub place : ℕ
+  pub element : X
+  pub within : place < below
+  pub found : slice_get xs place ≡ Some element
+  pub keyed : key element ≡ k
+  pub passes : test element ≡ true
+
+abbrev pub table_for : Way → List Bool → List Bool → List Bool
+table_for Put sinks sources = sinks
+table_for Get sinks sources = sources
+
+-- whether the table for the port's way marks its node
+abbrev pub is_marked : List Bool → List Bool → Port → Bool
+is_marked sinks sources port = slice_index_or (table_for port.way sinks sources) port.node false

@@ -1,0 +1,21 @@
+//! Laws about the definitions, each a function that does nothing.
+ghost use Rattle.reo_net.specs.Laws.{RunsEndOnce, NamesHaveOneNode, NamesHaveOneDirection, NodesHaveTheNames, NodesAreRegions, RegionsAreSingle, FiringsAreNodes};
+
+/// The steps of a run determine the state that it ends in.
+pub fn run_determines_its_final_state()
+    ensures { RunsEndOnce }
+{}
+
+/// Each name is of one node, and goes one way there.
+pub fn names_have_one_node()
+    ensures one { NamesHaveOneNode }
+    ensures one_way { NamesHaveOneDirection }
+    ensures all { NodesHaveTheNames }
+{}
+
+/// While each channel is a FIFO1, each node is a region of its own, and what it fires are the region's firings.
+pub fn fifo_regions_are_nodes()
+    ensures regions { NodesAreRegions }
+    ensures single { RegionsAreSingle }
+    ensures firings { FiringsAreNodes }
+{}

@@ -1,0 +1,11 @@
+pub mod CutLemmas
+pub mod ReadLemmas
+pub mod WordLemmas
+pub mod ListLemmas
+pub mod BuilderLemmas
+pub mod PushLemmas
+pub mod ResultLemmas
+pub mod SentenceLemmas
+pub mod SeatLemmas
+pub mod RepresentLemmas
+pub mod LawLemmas

@@ -1,0 +1,10 @@
+pub mod Bytes
+pub mod Sentence
+pub mod Parts
+pub mod Plain
+pub mod Said
+pub mod Builder
+pub mod Represents
+pub mod Document
+pub mod Laws
+pub mod Refusal

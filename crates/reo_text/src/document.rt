@@ -1,0 +1,134 @@
+//! A document, as callers see it.
+ghost use Rattle.std.specs.Prelude.{◌≡◌, List, IfOk};
+ghost use Rattle.std.specs.List.{filter_map};
+ghost use Rattle.reo_text.specs.Parts.{circuit_of, document_of, channel_in, port_in};
+ghost use Rattle.reo_text.specs.Document.{IsDocument, IsWellFormed};
+ghost use Rattle.reo_text.specs.Sentence.{Sentence};
+ghost use Rattle.reo_text.specs.Builder.{IsBuilder};
+ghost use Rattle.reo_text.specs.Represents.{Represents};
+
+use crate::builder::Builder;
+use crate::line::Line;
+use reo_net::{Channel, Port, RawCircuit};
+use reo_value::{Lexicon, Op};
+use sqlite_items::Items;
+use std::alloc::{AllocError, Global};
+use std::marker::Model;
+
+/// A circuit with names for its nodes, and the components that use it, each with its script.
+#[derive(Drop)]
+pub struct Document {
+    lines: Vec<Line>,
+    nodes: Lexicon,
+    texts: Lexicon,
+    people: Lexicon,
+    scripts: Vec<Items<Op>>,
+}
+
+impl Model for Document {
+    ghost use Rattle.reo_text.specs.Parts.{DocumentData};
+    ghost use Rattle.reo_text.specs.Document.{IsDocument};
+
+    ghost Value = { DocumentData };
+
+    ghost view = { λ d. record { lines = d.lines.items; nodes = d.nodes; texts = d.texts; people = d.people; scripts = d.scripts.items } };
+
+    ghost invariant = { λ d. IsDocument (record { lines = d.lines.items; nodes = d.nodes; texts = d.texts; people = d.people; scripts = d.scripts.items }) };
+}
+
+impl Document {
+    pub(crate) fn from_builder(alloc: Global, builder: Builder) -> Document
+        requires { IsBuilder builder }
+        ensures exact { (ss : List Sentence) → Represents ss builder → result ≡ document_of ss }
+    {
+        let Builder {
+            lines,
+            nodes,
+            people,
+            scripts,
+            ..
+        } = builder;
+        Document {
+            lines,
+            nodes,
+            texts: Lexicon::new(alloc),
+            people,
+            scripts,
+        }
+    }
+
+    /// The lines of the circuit.
+    pub fn lines(&self) -> &[Line]
+        ensures lines { result.now ≡ self.now.lines }
+    {
+        self.lines.as_slice()
+    }
+
+    /// The names of the nodes.
+    pub fn nodes(&self) -> &Lexicon
+        ensures nodes { result.now ≡ self.now.nodes }
+    {
+        &self.nodes
+    }
+
+    /// The texts that are data.
+    pub fn texts(&self) -> &Lexicon
+        ensures texts { result.now ≡ self.now.texts }
+    {
+        &self.texts
+    }
+
+    /// The names of the components.
+    pub fn people(&self) -> &Lexicon
+        ensures people { result.now ≡ self.now.people }
+    {
+        &self.people
+    }
+
+    /// What each component does.
+    pub fn scripts(&self) -> &[Items<Op>]
+        ensures scripts { result.now ≡ self.now.scripts }
+        ensures document { IsDocument self.now }
+    {
+        self.scripts.as_slice()
+    }
+
+    /// The circuit by itself.
+    pub fn circuit(&self, alloc: Global) -> Result<RawCircuit, AllocError>
+        ensures circuit { IfOk result (λ c. c ≡ circuit_of self.now) }
+        ensures well_formed { IfOk result IsWellFormed }
+    {
+        let channels = channels_in(alloc, self.lines.as_slice())?;
+        let ports = ports_in(alloc, self.lines.as_slice())?;
+        Ok(RawCircuit {
+            nodes: self.nodes.len(),
+            texts: self.texts.len(),
+            channels,
+            ports,
+        })
+    }
+}
+
+fn channels_in(alloc: Global, lines: &[Line]) -> Result<Items<Channel>, AllocError>
+    ensures { IfOk result (λ channels. channels ≡ filter_map channel_in lines.now) }
+{
+    let mut channels = Vec::new(alloc);
+    for line in lines {
+        if let Some(channel) = line.channel() {
+            channels.extend_from_slice(&[channel])?;
+        }
+    }
+    Ok(Items::from_vec(channels))
+}
+
+fn ports_in(alloc: Global, lines: &[Line]) -> Result<Items<Port>, AllocError>
+    ensures { IfOk result (λ ports. ports ≡ filter_map port_in lines.now) }
+{
+    let mut ports = Vec::new(alloc);
+    for line in lines {
+        if let Some(port) = line.port() {
+            ports.extend_from_slice(&[port])?;
+        }
+    }
+    Ok(Items::from_vec(ports))
+}

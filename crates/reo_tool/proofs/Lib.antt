@@ -1,0 +1,16 @@
+pub mod EndLists
+pub mod OfferLemmas
+pub mod ChoiceLemmas
+pub mod Places
+pub mod EndLemmas
+pub mod PairLemmas
+pub mod CarryLemmas
+pub mod FiringLaw
+pub mod QuietLaw
+pub mod ProgressLaw
+pub mod PortLaw
+pub mod TurnLaw
+pub mod OwnerLemmas
+pub mod EndingLaw
+pub mod FitLaw
+pub mod CallLaw

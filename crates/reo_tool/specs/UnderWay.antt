@@ -1,0 +1,19 @@
+-- A run that is under way: what it did so far is lawful.
+use Rattle.std.specs.Prelude.{◌≡◌, ℕ, ◌<◌, List, length, slice_get, All, Some}
+use Rattle.reo_value.specs.declared.op.Op.{Op}
+use Rattle.reo_net.specs.declared.circuit.Port.{Port}
+use Rattle.reo_net.specs.declared.circuit.RawCircuit.{RawCircuit}
+use Rattle.reo_net.specs.declared.circuit.Step.{Step}
+use Rattle.reo_net.specs.Steps.{State, IsState, Fires}
+use Rattle.reo_net.specs.Runs.{Run, initial_state}
+use Rattle.reo_trace.specs.declared.report.Called.{Called}
+use Rattle.reo_trace.specs.Lawful.{FiresOneRegion, AreFirstOf, StandsIn, IsAnsweredOnce, call_at}
+
+pub record IsUnderWay (c : RawCircuit) (scripts : List (List Op)) (cells : State) (steps : List Step) (calls : List (List Called)) : Type 0 where
+  pub is_state : IsState c cells
+  pub run : Run c (initial_state c) steps cells
+  pub firings : All (FiresOneRegion c) steps
+  pub components : length calls ≡ length scripts
+  pub in_order : (k : ℕ) (script : List Op) (own : List Called) → slice_get scripts k ≡ Some script → slice_get calls k ≡ Some own → AreFirstOf script own
+  pub placed : (k i : ℕ) (call : Called) → call_at calls k i ≡ Some call → StandsIn steps call
+  pub once : (number : ℕ) (step : Step) (port : ℕ) → slice_get steps number ≡ Some step → port < length c.ports → Fires step port → IsAnsweredOnce calls number port

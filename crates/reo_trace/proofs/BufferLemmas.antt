@@ -1,0 +1,72 @@
+-- How the pushes of parts make up that of a whole.
+use Rattle.std.proofs.Common.{◌≡◌, ℕ, ◌+◌, ◌<◌, List, [], ◌++◌, length, take, get_or, Result, Ok, Err, vec_len, vec_capacity, sym, ap, ◌∙◌, arith, append_assoc, append-nil, length-append, subst}
+use Rattle.std.specs.Result.{IsErr}
+use Rattle.std.specs.Prelude.{Vec}
+use Rattle.std.specs.List.{flat_map}
+use Rattle.reo_trace.proofs.ListLemmas.{numbered-next, numbered-split, flat_map-numbered}
+use Rattle.reo_trace.specs.Buffer.{HasTaken, LacksRoom, Takes, Fills}
+
+pub HasTaken-trans : {Z : Type 0} (a b c : Vec ℕ Z) (x y : List ℕ) → HasTaken a b x → HasTaken b c y → HasTaken a c (x ++ y)
+HasTaken-trans a b c x y p q = record {
+  items = q.items ∙ ap (λ l. l ++ y) p.items ∙ append_assoc a.items x y;
+  len = omega (arith, p.len, q.len, length-append x y);
+  capacity = omega (arith, p.capacity, q.capacity);
+}
+
+pub LacksRoom-front : {Z : Type 0} (a b : Vec ℕ Z) (x y : List ℕ) → LacksRoom a b x → LacksRoom a b (x ++ y)
+LacksRoom-front a b x y p = record {
+  full = omega (arith, p.full, length-append x y);
+  capacity = p.capacity;
+}
+
+pub LacksRoom-trans : {Z : Type 0} (a b c : Vec ℕ Z) (x y : List ℕ) → HasTaken a b x → LacksRoom b c y → LacksRoom a c (x ++ y)
+LacksRoom-trans a b c x y p q = record {
+  full = omega (arith, p.len, p.capacity, q.full, length-append x y);
+  capacity = omega (arith, p.capacity, q.capacity);
+}
+
+-- a push after a push
+pub Takes-trans : {Z T E : Type 0} (a b c : Vec ℕ Z) (r : Result T E) (x y : List ℕ) → HasTaken a b x → Takes b c r y → Takes a c r (x ++ y)
+Takes-trans a b c (Ok done) x y p q = HasTaken-trans a b c x y p q
+Takes-trans a b c (Err e) x y p q = LacksRoom-trans a b c x y p q
+
+-- a push into an empty buffer
+pub Fills-from_empty : {Z T E : Type 0} (a b c : Vec ℕ Z) (r : Result T E) (x : List ℕ) → b.items ≡ [] → vec_len b ≡ 0 → vec_capacity b ≡ vec_capacity a → Takes b c r x → Fills a c r x
+Fills-from_empty a b c (Ok done) x none len room p = record {
+  items = p.items ∙ ap (λ l. l ++ x) none;
+  len = omega (arith, p.len, len);
+  capacity = omega (arith, p.capacity, room);
+}
+Fills-from_empty a b c (Err e) x none len room p = record {
+  full = omega (arith, p.full, len, room);
+  capacity = omega (arith, p.capacity, room);
+}
+
+pub HasTaken-none : {Z : Type 0} (a : Vec ℕ Z) → HasTaken a a []
+HasTaken-none a = record {
+  items = sym (append-nil a.items);
+  len = omega arith;
+  capacity = omega arith;
+}
+
+-- one more of a list's texts
+pub HasTaken-next : {A Z : Type 0} (f : A → List ℕ) (a b c : Vec ℕ Z) (xs : List A) (i : ℕ) (x d : A) → i < length xs → get_or xs i d ≡ x
+    → HasTaken a b (flat_map f (take i xs)) → HasTaken b c (f x) → HasTaken a c (flat_map f (take (i + 1) xs))
+HasTaken-next f a b c xs i x d lt same p q =
+    let e : flat_map f (take (i + 1) xs) ≡ flat_map f (take i xs) ++ f x =
+    flat_map-numbered f 0 (take (i + 1) xs) ∙ numbered-next (λ _. f) xs i x d lt same ∙ ap (λ l. l ++ f x) (sym (flat_map-numbered f 0 (take i xs))) in
+    subst (λ l. HasTaken a c l) (sym e) (HasTaken-trans a b c (flat_map f (take i xs)) (f x) p q)
+
+-- no room for one of a list's texts
+pub LacksRoom-at : {A Z : Type 0} (f : A → List ℕ) (a b c : Vec ℕ Z) (xs : List A) (i : ℕ) (x d : A) → i < length xs → get_or xs i d ≡ x
+    → HasTaken a b (flat_map f (take i xs)) → LacksRoom b c (f x) → LacksRoom a c (flat_map f xs)
+LacksRoom-at f a b c xs i x d lt same p q =
+    let split = numbered-split (λ _. f) xs i x d lt same in
+    let e : flat_map f xs ≡ flat_map f (take i xs) ++ f x ++ split.0 =
+    flat_map-numbered f 0 xs ∙ split.1 ∙ ap (λ l. l ++ f x ++ split.0) (sym (flat_map-numbered f 0 (take i xs))) in
+    subst (λ l. LacksRoom a c l) (sym e)
+    (LacksRoom-front a c (flat_map f (take i xs) ++ f x) split.0 (LacksRoom-trans a b c (flat_map f (take i xs)) (f x) p q))
+
+pub Takes-err : {Z T E : Type 0} (a b : Vec ℕ Z) (r : Result T E) (x : List ℕ) → IsErr r → LacksRoom a b x → Takes a b r x
+Takes-err a b (Ok done) x is_err lacks = absurd (cc)
+Takes-err a b (Err e) x is_err lacks = lacks

@@ -1,0 +1,4 @@
+pub mod BufferLemmas
+pub mod ListLemmas
+pub mod ReportLemmas
+pub mod WriteLemmas

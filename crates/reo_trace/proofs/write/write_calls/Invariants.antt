@@ -1,0 +1,12 @@
+use Rattle.std.proofs.Common.{◌≡◌, ◌≤◌, length, take, vec_capacity}
+use Rattle.reo_base.specs.Streams.{IsExtended}
+use Rattle.reo_trace.specs.Passes.{all_calls}
+use Rattle.reo_trace.proofs.write.write_calls.Given as goal
+
+abbrev pub invariant-loop-number : goal.invariant-loop-number
+invariant-loop-number g l = record {
+  extended : IsExtended (g.K.Sink.written l.initial.out) (g.K.Sink.written l.out) (all_calls l.net l.nodes l.texts l.people (take l.number l.calls));
+  written : l.written ≡ length (all_calls l.net l.nodes l.texts l.people (take l.number l.calls));
+  later : g.K.Sink.faults l.initial.out ≤ g.K.Sink.faults l.out;
+  capacity : vec_capacity l.initial.buffer ≤ vec_capacity l.buffer;
+}

@@ -1,0 +1,5 @@
+pub mod Buffer
+pub mod Lawful
+pub mod Laws
+pub mod Passes
+pub mod ReportText

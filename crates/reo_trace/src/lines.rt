@@ -1,0 +1,248 @@
+//! The lines of a report's text, each made in a buffer.
+ghost use Rattle.std.specs.Prelude.{◌≡◌, decimal, flat_map, slice_get, Some};
+ghost use Rattle.std.specs.Fmt.{signed_decimal};
+ghost use Rattle.reo_trace.specs.Buffer.{Takes, Fills};
+ghost use Rattle.reo_trace.specs.ReportText.{text_at, escaped, value_text, node_text, port_text, end_text, name_text, pair_text, step_line, op_text, call_line, end_line};
+
+use crate::{Called, Ending};
+use itoa::Buffer;
+use reo_net::{Net, Port, Step};
+use reo_value::{Lexicon, Op, Value, Way};
+use std::alloc::AllocError;
+
+// The text of this number, or no bytes where there is none.
+pub(crate) fn bytes_at(texts: &Lexicon, number: usize) -> &[u8]
+    ensures { result.now ≡ text_at texts.now number }
+{
+    if number >= texts.len() as usize {
+        return &[];
+    }
+    match texts.text(number as u32) {
+        Some(text) => text.as_bytes(),
+        None => &[],
+    }
+}
+
+fn push_bytes(buffer: &mut Vec<u8>, bytes: &[u8]) -> Result<(), AllocError>
+    ensures { Takes buffer.old buffer.new result bytes.now }
+{
+    buffer.extend_from_slice(bytes)
+}
+
+fn push_decimal(buffer: &mut Vec<u8>, number: u64) -> Result<(), AllocError>
+    ensures { Takes buffer.old buffer.new result (decimal number) }
+{
+    let mut digits = Buffer::new();
+    push_bytes(buffer, digits.format(number).as_bytes())
+}
+
+fn push_signed(buffer: &mut Vec<u8>, number: i64) -> Result<(), AllocError>
+    ensures { Takes buffer.old buffer.new result (signed_decimal number) }
+{
+    let mut digits = Buffer::new();
+    push_bytes(buffer, digits.format(number).as_bytes())
+}
+
+fn push_escaped_byte(buffer: &mut Vec<u8>, byte: u8) -> Result<(), AllocError>
+    ensures { Takes buffer.old buffer.new result (escaped byte) }
+{
+    match byte {
+        b'"' => push_bytes(buffer, b"\\\""),
+        b'\\' => push_bytes(buffer, b"\\\\"),
+        b'\n' => push_bytes(buffer, b"\\n"),
+        b'\t' => push_bytes(buffer, b"\\t"),
+        _ => push_bytes(buffer, &[byte]),
+    }
+}
+
+fn push_escaped(buffer: &mut Vec<u8>, bytes: &[u8]) -> Result<(), AllocError>
+    ensures { Takes buffer.old buffer.new result (flat_map escaped bytes.now) }
+{
+    for byte in bytes {
+        push_escaped_byte(buffer, *byte)?;
+    }
+    Ok(())
+}
+
+fn push_value(buffer: &mut Vec<u8>, texts: &Lexicon, value: Value) -> Result<(), AllocError>
+    ensures { Takes buffer.old buffer.new result (value_text texts.now value) }
+{
+    match value {
+        Value::Int(number) => push_signed(buffer, number.get()),
+        Value::Sym(text) => {
+            push_bytes(buffer, b"\"")?;
+            push_escaped(buffer, bytes_at(texts, text as usize))?;
+            push_bytes(buffer, b"\"")
+        }
+    }
+}
+
+fn push_node(
+    buffer: &mut Vec<u8>,
+    nodes: &Lexicon,
+    ports: &[Port],
+    number: u32,
+) -> Result<(), AllocError>
+    ensures { Takes buffer.old buffer.new result (node_text nodes.now (slice_get ports.now number)) }
+{
+    match ports.get(number as usize) {
+        Some(port) => push_bytes(buffer, bytes_at(nodes, port.node as usize)),
+        None => Ok(()),
+    }
+}
+
+fn push_port(buffer: &mut Vec<u8>, nodes: &Lexicon, port: Port) -> Result<(), AllocError>
+    ensures { Takes buffer.old buffer.new result (port_text nodes.now (Some port)) }
+{
+    push_bytes(buffer, bytes_at(nodes, port.node as usize))?;
+    match port.way {
+        Way::Put => push_bytes(buffer, b"!"),
+        Way::Get => push_bytes(buffer, b"?"),
+    }
+}
+
+fn push_end(buffer: &mut Vec<u8>, place: u64) -> Result<(), AllocError>
+    ensures { Takes buffer.old buffer.new result (end_text place) }
+{
+    push_decimal(buffer, place / 2 + 1)?;
+    if place % 2 == 0 {
+        push_bytes(buffer, b".a")
+    } else {
+        push_bytes(buffer, b".b")
+    }
+}
+
+fn push_name(buffer: &mut Vec<u8>, net: &Net, nodes: &Lexicon, name: u32) -> Result<(), AllocError>
+    ensures { Takes buffer.old buffer.new result (name_text net.now nodes.now name) }
+{
+    let ports = net.ports();
+    let name = name as usize;
+    if name < ports.len() {
+        push_port(buffer, nodes, ports[name])
+    } else {
+        push_end(buffer, (name - ports.len()) as u64)
+    }
+}
+
+fn push_pair(
+    buffer: &mut Vec<u8>,
+    net: &Net,
+    nodes: &Lexicon,
+    texts: &Lexicon,
+    pair: (u32, Value),
+) -> Result<(), AllocError>
+    ensures { Takes buffer.old buffer.new result (pair_text net.now nodes.now texts.now pair) }
+{
+    push_bytes(buffer, b" ")?;
+    push_name(buffer, net, nodes, pair.0)?;
+    push_bytes(buffer, b"=")?;
+    push_value(buffer, texts, pair.1)
+}
+
+fn push_pairs(
+    buffer: &mut Vec<u8>,
+    net: &Net,
+    nodes: &Lexicon,
+    texts: &Lexicon,
+    pairs: &[(u32, Value)],
+) -> Result<(), AllocError>
+    ensures { Takes buffer.old buffer.new result (flat_map (pair_text net.now nodes.now texts.now) pairs.now) }
+{
+    for pair in pairs {
+        push_pair(buffer, net, nodes, texts, *pair)?;
+    }
+    Ok(())
+}
+
+fn push_step(
+    buffer: &mut Vec<u8>,
+    net: &Net,
+    nodes: &Lexicon,
+    texts: &Lexicon,
+    number: u64,
+    step: &Step,
+) -> Result<(), AllocError>
+    ensures { Takes buffer.old buffer.new result (step_line net.now nodes.now texts.now number step.now) }
+{
+    push_bytes(buffer, b"step ")?;
+    push_decimal(buffer, number)?;
+    push_pairs(buffer, net, nodes, texts, step.pairs.as_slice())?;
+    push_bytes(buffer, b"\n")
+}
+
+fn push_op(buffer: &mut Vec<u8>, net: &Net, nodes: &Lexicon, op: Op) -> Result<(), AllocError>
+    ensures { Takes buffer.old buffer.new result (op_text net.now nodes.now op) }
+{
+    match op {
+        Op::Put(port, _) => {
+            push_bytes(buffer, b" put ")?;
+            push_node(buffer, nodes, net.ports(), port)
+        }
+        Op::Get(port) => {
+            push_bytes(buffer, b" get ")?;
+            push_node(buffer, nodes, net.ports(), port)
+        }
+    }
+}
+
+fn push_call(
+    buffer: &mut Vec<u8>,
+    net: &Net,
+    nodes: &Lexicon,
+    texts: &Lexicon,
+    person: &[u8],
+    call: &Called,
+) -> Result<(), AllocError>
+    ensures { Takes buffer.old buffer.new result (call_line net.now nodes.now texts.now person.now call.now) }
+{
+    push_bytes(buffer, b"call ")?;
+    push_bytes(buffer, person)?;
+    push_op(buffer, net, nodes, call.op)?;
+    push_bytes(buffer, b" ")?;
+    push_value(buffer, texts, call.value)?;
+    push_bytes(buffer, b" at ")?;
+    push_decimal(buffer, call.number)?;
+    push_bytes(buffer, b"\n")
+}
+
+// Makes the line of a step, alone in the buffer.
+pub(crate) fn fill_step(
+    buffer: &mut Vec<u8>,
+    net: &Net,
+    nodes: &Lexicon,
+    texts: &Lexicon,
+    number: usize,
+    step: &Step,
+) -> Result<(), AllocError>
+    ensures { Fills buffer.old buffer.new result (step_line net.now nodes.now texts.now number step.now) }
+{
+    buffer.clear();
+    push_step(buffer, net, nodes, texts, number as u64, step)
+}
+
+// Makes the line of a component's call, alone in the buffer.
+pub(crate) fn fill_call(
+    buffer: &mut Vec<u8>,
+    net: &Net,
+    nodes: &Lexicon,
+    texts: &Lexicon,
+    person: &[u8],
+    call: &Called,
+) -> Result<(), AllocError>
+    ensures { Fills buffer.old buffer.new result (call_line net.now nodes.now texts.now person.now call.now) }
+{
+    buffer.clear();
+    push_call(buffer, net, nodes, texts, person, call)
+}
+
+// Makes the line of the end, alone in the buffer.
+pub(crate) fn fill_ending(buffer: &mut Vec<u8>, ending: Ending) -> Result<(), AllocError>
+    ensures { Fills buffer.old buffer.new result (end_line ending) }
+{
+    buffer.clear();
+    match ending {
+        Ending::Done => push_bytes(buffer, b"end done\n"),
+        Ending::Stuck => push_bytes(buffer, b"end stuck\n"),
+        Ending::Limit => push_bytes(buffer, b"end limit\n"),
+    }
+}
