@@ -8,6 +8,12 @@ use std::env;
 use std::process::ExitCode;
 
 #[cfg(test)]
+mod each_call;
+#[cfg(test)]
+mod product_steps;
+#[cfg(test)]
+mod refused_lines;
+#[cfg(test)]
 mod rows;
 
 /// The words as texts that are lent.

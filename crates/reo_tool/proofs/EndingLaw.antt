@@ -10,7 +10,10 @@ use Rattle.reo_net.specs.declared.circuit.RawCircuit.{RawCircuit}
 use Rattle.reo_net.specs.declared.circuit.Step.{Step}
 use Rattle.reo_net.specs.Steps.{State}
 use Rattle.reo_net.specs.Runs.{initial_state, IsEnabled}
-use Rattle.reo_net.specs.Regions.{Automaton, AreRegions}
+use Rattle.std.specs.List.{range_with_len}
+use Rattle.reo_net.specs.Checks.{IsCircuit}
+use Rattle.reo_net.specs.Regions.{Automaton, OfNode, AreRegions}
+use Rattle.reo_net.proofs.RegionLemmas.{nodes_are_regions}
 use Rattle.reo_net.proofs.FifoLemmas.{initial_is_state}
 use Rattle.reo_trace.specs.declared.report.Called.{Called}
 use Rattle.reo_trace.specs.declared.report.Ending.{Ending}
@@ -94,8 +97,11 @@ begins c scripts components count = record {
 }
 
 -- what a report has
-pub is_lawful : (c : RawCircuit) (scripts : List (List Op)) (limit : ℕ) (cells : State) (steps : List Step) (calls : List (List Called)) (ending : Ending) → 1 ≤ limit → IsUnderWay c scripts cells steps calls → length steps ≤ limit → IsEndingOf c scripts calls limit (length steps) cells ending → IsLawfulReport c scripts limit (record { steps = steps; calls = calls; ending = ending })
-is_lawful c scripts limit cells steps calls ending some so_far within ended = record {
+pub is_lawful : (c : RawCircuit) (scripts : List (List Op)) (limit : ℕ) (cells : State) (steps : List Step) (calls : List (List Called)) (ending : Ending) → IsCircuit c → 1 ≤ limit → IsUnderWay c scripts cells steps calls → length steps ≤ limit → IsEndingOf c scripts calls limit (length steps) cells ending → IsLawfulReport c scripts limit (record { steps = steps; calls = calls; ending = ending })
+is_lawful c scripts limit cells steps calls ending circuit some so_far within ended =
+  let roots : List Automaton = map OfNode (range_with_len 0 c.nodes) in
+  let are : AreRegions c roots = nodes_are_regions c circuit in
+  record {
   final = cells;
   run = so_far.run;
   firings = so_far.firings;
@@ -103,8 +109,9 @@ is_lawful c scripts limit cells steps calls ending some so_far within ended = re
   in_order = so_far.in_order;
   placed = so_far.placed;
   once = so_far.once;
-  bound = λ roots are.
-      ⊎_elim
+  roots = roots;
+  regions = are;
+  bound = ⊎_elim
       (λ (below : length steps < limit). omega arith)
       (λ (reached : limit ≤ length steps). (let firing = so_far.firings 0 (record { pairs = [] }) (omega arith) in let found = are.every firing.root firing.region in omega (arith, found.1)))
       (cases_lt (length steps) limit);

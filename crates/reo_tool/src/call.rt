@@ -38,8 +38,8 @@ fn is_run_plain(words: &[&str]) -> bool
     }
 }
 
-/// The net of a document's circuit.
-fn checked(alloc: Global, document: &Document) -> Result<Net, CheckRefusal>
+/// The net of a document's circuit, where the checks accept it.
+pub fn checked(alloc: Global, document: &Document) -> Result<Net, CheckRefusal>
     ensures net { IfOk result (λ net. net ≡ circuit_of document.now) }
     ensures accepted { OnOk result (IsChecked (circuit_of document.now)) }
     ensures refused { IfErr result (Refuses (circuit_of document.now)) }

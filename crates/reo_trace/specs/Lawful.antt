@@ -90,6 +90,8 @@ pub record IsLawfulReport (c : RawCircuit) (scripts : List (List Op)) (limit : �
   pub placed : (k i : ℕ) (call : Called) → call_at report.calls k i ≡ Some call → StandsIn report.steps call
   -- each port in each step is that of one call
   pub once : (number : ℕ) (step : Step) (port : ℕ) → slice_get report.steps number ≡ Some step → port < length c.ports → Fires step port → IsAnsweredOnce report.calls number port
-  -- a region has at most one firing past the limit
-  pub bound : (roots : List Automaton) → AreRegions c roots → length report.steps < limit + length roots
+  -- the circuit's regions, each of which has at most one firing past the limit
+  pub roots : List Automaton
+  pub regions : AreRegions c roots
+  pub bound : length report.steps < limit + length roots
   pub ended : IsEndingOf c scripts report.calls limit (length report.steps) final report.ending

@@ -28,5 +28,5 @@ returns c =
     let net = c.args.net.now in
     let scripts = c.args.scripts.now in
     let p = c.run_on.new.progress in
-    let lawful = is_lawful net scripts c.args.limit p.cells.items p.steps.items p.calls.items c.in_ok-ending.ending c.requires.limit c.in_ok-ending.ensures.under_way c.in_ok-ending.ensures.within c.in_ok-ending.ensures.ended in
+    let lawful = is_lawful net scripts c.args.limit p.cells.items p.steps.items p.calls.items c.in_ok-ending.ending c.nodes.ensures.checked.circuit c.requires.limit c.in_ok-ending.ensures.under_way c.in_ok-ending.ensures.within c.in_ok-ending.ensures.ended in
     subst (λ (steps : List Step). IsLawfulReport net scripts c.args.limit (record { steps = steps; calls = c.from_vec-2.result; ending = c.in_ok-ending.ending })) (sym c.from_vec.ensures) (subst (λ (calls : List (List Called)). IsLawfulReport net scripts c.args.limit (record { steps = p.steps.items; calls = calls; ending = c.in_ok-ending.ending })) (sym c.from_vec-2.ensures) lawful)

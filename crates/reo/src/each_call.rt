@@ -1,0 +1,96 @@
+//! Each public call below the top one, once on its happy path, and the values that are told from outside.
+use reo_base::{MemorySink, MemorySource, StdSink, StdSource, read_all, write_whole};
+use reo_net::{Step, channel_allows, datum_at, is_step, node_allows};
+use reo_text::read_document;
+use reo_tool::checked;
+use reo_trace::{Ending, Report, write_report};
+use reo_value::{Lexicon, Num, Op, Value, value_of, word_of};
+use sqlite_items::Items;
+use std::io::Cursor;
+
+#[test]
+fn integers_have_their_codes(rt: HostRuntime) {
+    for (integer, code) in [
+        (0, 9_223_372_036_854_775_809),
+        (-4_611_686_018_427_387_904, 1),
+        (4_611_686_018_427_387_903, 18_446_744_073_709_551_615),
+    ] {
+        let value = Value::Int(Num::new(integer).expect(&rt, "in range"));
+        assert_eq!(rt; word_of(value), code, "of {integer}");
+        assert!(rt; value_of(code).is_some(), "of {code}");
+    }
+    assert_eq!(rt; Num::new(7).expect(&rt, "in range").get(), 7);
+    assert_eq!(rt; Num::new(4_611_686_018_427_387_904), None);
+    assert_eq!(rt; Num::new(-4_611_686_018_427_387_905), None);
+}
+
+#[test]
+fn a_lexicon_numbers_its_texts(rt: HostRuntime) {
+    let alloc = rt.alloc();
+    let mut lexicon = Lexicon::new(alloc);
+    assert!(rt; lexicon.is_empty());
+    assert_eq!(rt; lexicon.add(alloc, "go"), Ok(0));
+    assert_eq!(rt; lexicon.add(alloc, "stop"), Ok(1));
+    assert_eq!(rt; lexicon.add(alloc, "go"), Ok(0));
+    assert_eq!(rt; lexicon.len(), 2);
+    assert_eq!(rt; lexicon.text(1), Some("stop"));
+    assert_eq!(rt; lexicon.find("stop"), Some(1));
+    assert_eq!(rt; lexicon.find("halt"), None);
+}
+
+#[test]
+fn bytes_pass_through_the_standard_streams(rt: HostRuntime) {
+    let alloc = rt.alloc();
+    let mut source = StdSource::new(Cursor::new(b"in A\n"));
+    let bytes = read_all(alloc, &mut source, 5).expect(&rt, "ample memory");
+    assert_eq!(rt; bytes.as_slice(), "in A\n".as_bytes());
+    let mut sink = StdSink::new(Vec::new(alloc));
+    assert_eq!(rt; write_whole(&mut sink, bytes.as_slice()), Ok(()));
+}
+
+#[test]
+fn a_document_is_read_checked_and_told(rt: HostRuntime) {
+    let alloc = rt.alloc();
+    let document = read_document(alloc, b"in A\nfifo A B full 7\ncomponent P\nput A -5\n").expect(
+        &rt,
+        "ample memory",
+    );
+    assert_eq!(rt; document.lines().len(), 2);
+    assert_eq!(rt; document.nodes().text(1), Some("B"));
+    assert!(rt; document.texts().is_empty());
+    assert_eq!(rt; document.people().text(0), Some("P"));
+    let minus_five = Value::Int(Num::new(-5).expect(&rt, "in range"));
+    let script = document.scripts().first().expect(&rt, "a script");
+    assert_eq!(rt; script.as_slice(), [Op::Put(0, minus_five)].as_slice());
+    let net = checked(alloc, &document).expect(&rt, "ample memory");
+    assert_eq!(rt; (net.nodes(), net.texts(), net.names()), (2, 0, 3));
+    assert_eq!(rt; (net.channels().len(), net.ports().len()), (1, 1));
+    let fill = Step {
+        pairs: Items::from_slice(alloc, &[(0, minus_five), (1, minus_five)]).expect(
+            &rt,
+            "ample memory",
+        ),
+    };
+    assert_eq!(rt; datum_at(&fill, 1), Some(minus_five));
+    assert!(rt; is_step(&net, &fill) && node_allows(&net, 0, &fill));
+    if !net.channels().is_empty() {
+        assert!(rt; channel_allows(&net, 0, &[None], &fill, &[Some(minus_five)]));
+    }
+    let report = Report {
+        steps: Items::new(alloc),
+        calls: Items::new(alloc),
+        ending: Ending::Stuck,
+    };
+    let mut out = MemorySink::new(alloc, 64, 3, Vec::new(alloc)).expect(&rt, "ample memory");
+    write_report(
+        alloc,
+        &mut out,
+        &net,
+        document.nodes(),
+        document.texts(),
+        document.people(),
+        &report,
+    )
+    .expect(&rt, "ample memory");
+    assert_eq!(rt; out.bytes(), "end stuck\n".as_bytes());
+}

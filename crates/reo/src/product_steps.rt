@@ -1,0 +1,169 @@
+//! Steps that a person can check by hand: which are steps of the product, and which are not, each for one reason.
+use reo_net::{Step, is_product_step};
+use reo_text::read_document;
+use reo_tool::checked;
+use reo_value::{Num, Value};
+use sqlite_items::Items;
+use std::alloc::Global;
+
+fn value(integer: i64) -> Option<Value> {
+    Num::new(integer).map(Value::Int)
+}
+
+/// What the buffers hold: 0 stands for nothing.
+fn state(alloc: Global, contents: &[i64]) -> Option<Vec<Option<Value>>> {
+    let mut cells = Vec::new(alloc);
+    for content in contents {
+        let cell = if *content == 0 { None } else { value(*content) };
+        cells.push(cell).ok()?;
+    }
+    Some(cells)
+}
+
+fn step(alloc: Global, names: &[(u32, i64)]) -> Option<Step> {
+    let mut pairs = Vec::new(alloc);
+    for (name, datum) in names {
+        pairs.push((*name, value(*datum)?)).ok()?;
+    }
+    Some(Step {
+        pairs: Items::from_vec(pairs),
+    })
+}
+
+fn allows(
+    alloc: Global,
+    text: &str,
+    old: &[i64],
+    names: &[(u32, i64)],
+    new: &[i64],
+) -> Option<bool> {
+    if text.len() > 1000 {
+        return None;
+    }
+    let document = read_document(alloc, text.as_bytes()).ok()?;
+    let net = checked(alloc, &document).ok()?;
+    let before = state(alloc, old)?;
+    let after = state(alloc, new)?;
+    let fired = step(alloc, names)?;
+    Some(is_product_step(&net, before.as_slice(), &fired, after.as_slice()))
+}
+
+/// The names are `A!`, `B?`, `1.a` and `1.b`.
+const BUFFER: &str = "in A\nfifo A B\nout B\n";
+
+#[test]
+fn a_buffer_is_filled_and_taken(rt: HostRuntime) {
+    let alloc = rt.alloc();
+    for (old, names, new, is_step, why) in [
+        (0, &[(0, 7), (2, 7)][..], 7, true, "a fill"),
+        (7, &[(1, 7), (3, 7)][..], 0, true, "a take"),
+        (0, &[][..], 0, false, "an empty step"),
+        (0, &[(0, 7)][..], 0, false, "an output left out"),
+        (
+            0,
+            &[(0, 7), (2, 8)][..],
+            8,
+            false,
+            "a datum changed at the node",
+        ),
+        (
+            0,
+            &[(1, 7), (3, 7)][..],
+            0,
+            false,
+            "a take from an empty one",
+        ),
+        (7, &[(0, 8), (2, 8)][..], 8, false, "a fill of a full one"),
+        (
+            7,
+            &[(1, 8), (3, 8)][..],
+            0,
+            false,
+            "another datum handed on",
+        ),
+        (
+            7,
+            &[(1, 7), (3, 7)][..],
+            7,
+            false,
+            "a datum kept when it is taken",
+        ),
+        (
+            7,
+            &[(0, 8), (1, 7), (2, 8), (3, 7)][..],
+            8,
+            false,
+            "both ends at once",
+        ),
+        (0, &[(2, 7), (0, 7)][..], 7, false, "names out of order"),
+        (0, &[(0, 7), (0, 7), (2, 7)][..], 7, false, "a name twice"),
+        (
+            0,
+            &[(0, 7), (2, 7), (4, 7)][..],
+            7,
+            false,
+            "a name of no circuit",
+        ),
+    ] {
+        assert_eq!(rt;
+            allows(alloc, BUFFER, &[old], names, &[new]),
+            Some(is_step),
+            "{why}"
+        );
+    }
+    assert_eq!(rt;
+        allows(alloc, BUFFER, &[], &[(0, 7), (2, 7)], &[7]),
+        Some(false)
+    );
+    assert_eq!(rt;
+        allows(alloc, BUFFER, &[0, 0], &[(0, 7), (2, 7)], &[7, 0]),
+        Some(false)
+    );
+}
+
+#[test]
+fn a_node_takes_one_input_and_serves_all_outputs(rt: HostRuntime) {
+    let alloc = rt.alloc();
+    let fork = "in A\nfifo A B\nfifo A C\n";
+    assert_eq!(rt;
+        allows(alloc, fork, &[0, 0], &[(0, 7), (1, 7), (3, 7)], &[7, 7]),
+        Some(true)
+    );
+    assert_eq!(rt;
+        allows(alloc, fork, &[0, 0], &[(0, 7), (1, 7)], &[7, 0]),
+        Some(false)
+    );
+    let merge = "fifo A C\nfifo B C\nout C\n";
+    assert_eq!(rt;
+        allows(alloc, merge, &[7, 7], &[(0, 7), (2, 7)], &[0, 7]),
+        Some(true)
+    );
+    assert_eq!(rt;
+        allows(alloc, merge, &[7, 7], &[(0, 7), (4, 7)], &[7, 0]),
+        Some(true)
+    );
+    assert_eq!(rt;
+        allows(alloc, merge, &[7, 7], &[(0, 7), (2, 7), (4, 7)], &[0, 0]),
+        Some(false)
+    );
+    let own = "fifo A A\n";
+    assert_eq!(rt;
+        allows(alloc, own, &[7], &[(0, 7), (1, 7)], &[7]),
+        Some(false)
+    );
+    let chain = "in A\nfifo A B\nfifo B C\nout C\n";
+    assert_eq!(rt;
+        allows(alloc, chain, &[7, 0], &[(3, 7), (4, 7)], &[0, 7]),
+        Some(true)
+    );
+    assert_eq!(rt;
+        allows(
+            alloc,
+            chain,
+            &[0, 7],
+            &[(0, 8), (1, 7), (2, 8), (5, 7)],
+            &[8, 0]
+        ),
+        Some(true)
+    );
+}
