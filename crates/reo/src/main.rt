@@ -2,9 +2,10 @@
 #![tactic(auto)]
 
 use reo_base::{StdSink, StdSource};
-use reo_tool::{Status, plain_call};
+use reo_tool::{plain_call, tell_memory};
 use std::alloc::{AllocError, Global};
 use std::env;
+use std::io::ErrorKind;
 use std::process::ExitCode;
 
 #[cfg(test)]
@@ -15,6 +16,24 @@ mod product_steps;
 mod refused_lines;
 #[cfg(test)]
 mod rows;
+
+/// The words after the program's name. Words that are not UTF-8 count as none.
+fn words_of(rt: &HostRuntime) -> Result<Vec<String>, AllocError> {
+    let mut words = Vec::new(rt.alloc());
+    match env::args(rt) {
+        Ok(arguments) => {
+            for word in arguments.skip(1) {
+                words.push(word)?;
+            }
+        }
+        Err(error) => {
+            if error.kind() == ErrorKind::OutOfMemory {
+                return Err(AllocError);
+            }
+        }
+    }
+    Ok(words)
+}
 
 /// The words as texts that are lent.
 fn lent(alloc: Global, words: &[String]) -> Result<Vec<&str>, AllocError> {
@@ -30,17 +49,12 @@ fn main(rt: HostRuntime) -> ExitCode {
     let mut source = StdSource::new(rt.stdin());
     let mut out = StdSink::new(rt.stdout());
     let mut err = StdSink::new(rt.stderr());
-    let mut words = Vec::new(alloc);
-    if let Ok(arguments) = env::args(&rt) {
-        for word in arguments.skip(1) {
-            if words.push(word).is_err() {
-                return ExitCode::from(Status::Memory.code());
-            }
-        }
-    }
+    let Ok(words) = words_of(&rt) else {
+        return ExitCode::from(tell_memory(&mut err).code());
+    };
     let status = match lent(alloc, words.as_slice()) {
         Ok(texts) => plain_call(alloc, texts.as_slice(), &mut source, &mut out, &mut err),
-        Err(_) => Status::Memory,
+        Err(_) => tell_memory(&mut err),
     };
     ExitCode::from(status.code())
 }

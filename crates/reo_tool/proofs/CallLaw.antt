@@ -1,25 +1,24 @@
 -- The cause of each status, and what the causes rule out.
-use Rattle.std.proofs.Common.{◌≡◌, ℕ, ◌<◌, ◌≤◌, ◌⊎◌, List, [], length, Some, None, refl, sym, ap, ◌∙◌, subst, inl, inr, ⊎_elim, arith}
+use Rattle.std.proofs.Common.{◌≡◌, ℕ, ◌≤◌, ◌⊎◌, List, length, Some, refl, sym, ap, ◌∙◌, subst, inl, inr, ⊎_elim, arith}
 use Rattle.std.specs.Borrow.{Bor}
 use Rattle.reo_base.specs.Faults.{Rose}
-use Rattle.reo_base.specs.Streams.{IsReadWhole, IsExtended}
+use Rattle.reo_base.specs.Streams.{IsReadWhole}
 use Rattle.reo_net.specs.Checks.{IsChecked}
 use Rattle.reo_net.specs.Refusals.{Refuses}
 use Rattle.reo_net.specs.declared.net.CheckRefusal.{CheckRefusal}
 use Rattle.reo_net.specs.declared.net.CheckRefusal.TheVariants as refusal
 use Rattle.reo_net.specs.declared.circuit.RawCircuit.{RawCircuit}
-use Rattle.reo_text.specs.Parts.{DocumentData, circuit_of, document_of}
-use Rattle.reo_text.specs.Plain.{Spells, IsRefusedAt, plain_sentences}
+use Rattle.reo_text.specs.Parts.{DocumentData, circuit_of}
+use Rattle.reo_text.specs.Plain.{Spells, IsRefusedAt}
 use Rattle.reo_trace.specs.declared.report.Ending.{Ending}
 use Rattle.reo_trace.specs.declared.report.Ending.TheVariants as ending
 use Rattle.reo_trace.specs.declared.report.Report.{Report}
 use Rattle.reo_trace.specs.Lawful.{IsLawfulReport}
-use Rattle.reo_trace.specs.ReportText.{report_text}
 use Rattle.reo_tool.specs.declared.status.Status.{Status}
 use Rattle.reo_tool.specs.declared.status.Status.TheVariants.{Done, Stuck, Limit, Refused, Usage, ReadFault, WriteFault, Memory}
 use Rattle.reo_tool.specs.Status.{status_of}
 use Rattle.reo_tool.specs.FaultText.{line_text, check_text}
-use Rattle.reo_tool.specs.Call.{IsRunPlain, Streams, IsAccepted, IsReported, IsRun, IsRefusedCall, RefusedFor, ForLine, ForCircuit, ReadFaultFor, ForFault, ForLength, HasCauseFor, WrittenOut, ToldOrMemory, IsPromised, AreRefused, IsRefusable, IsOverlong, IsOrAbove, most_steps, most_bytes}
+use Rattle.reo_tool.specs.Call.{IsRunPlain, Streams, IsAccepted, IsReported, IsRun, RefusedFor, ForLine, ForCircuit, ReadFaultFor, ForFault, ForLength, HasCauseFor, WrittenOut, ToldOrMemory, IsPromised, IsRefusable, IsOverlong, IsOrAbove, most_steps, most_bytes}
 
 -- an ending has the cause of a run
 run_cause : (words : List (Bor (List ℕ))) (before after : Streams) (e : Ending) → IsRun words before after (status_of e) → HasCauseFor words before after (status_of e)
@@ -32,7 +31,7 @@ module _ (words : List (Bor (List ℕ))) (before after : Streams) (asked : IsRun
   refused_cause text result cause quiet told =
       ⊎_elim
       (λ t. subst (HasCauseFor words before after) (sym t.0) (record { asked = asked; bytes = bytes; read = read; short = short; text = text; cause = cause t.0; quiet = quiet; told = t.1 }))
-      (λ r. ⊎_elim (λ f. subst (HasCauseFor words before after) (sym f.0) (inr f.1)) (λ m. subst (HasCauseFor words before after) (sym m) (asked, quiet)) r)
+      (λ r. ⊎_elim (λ f. subst (HasCauseFor words before after) (sym f.0) (inr f.1)) (λ m. subst (HasCauseFor words before after) (sym m.0) (record { asked = asked; quiet = quiet; told = m.1 })) r)
       told
 
   pub line_cause : (line : ℕ) (result : Status) → IsRefusedAt bytes line → after.out ≡ before.out → ToldOrMemory Refused before.err after.err before.err_faults after.err_faults (line_text line) result → HasCauseFor words before after result
@@ -42,8 +41,8 @@ module _ (words : List (Bor (List ℕ))) (before after : Streams) (asked : IsRun
   circuit_cause document refused result spelled refuses named quiet told =
       refused_cause (check_text document.nodes refused) result (λ is. ForCircuit document refused spelled refuses (λ e. named e is) refl) quiet told
 
-  pub report_cause : (document : DocumentData) (report : Report) (result : Status) → Spells bytes document → IsAccepted document → IsLawfulReport (circuit_of document) document.scripts most_steps report → (result ≡ status_of report.ending → after.err ≡ before.err) → WrittenOut (circuit_of document) document report before.out after.out before.out_faults after.out_faults before.err_faults after.err_faults result → HasCauseFor words before after result
-  report_cause document report result spelled accepted lawful quiet written =
+  pub report_cause : (document : DocumentData) (report : Report) (result : Status) → Spells bytes document → IsAccepted document → IsLawfulReport (circuit_of document) document.scripts most_steps report → length report.steps ≤ most_steps → (result ≡ status_of report.ending → after.err ≡ before.err) → WrittenOut (circuit_of document) document report before.out after.out before.out_faults after.out_faults before.err after.err before.err_faults after.err_faults result → HasCauseFor words before after result
+  report_cause document report result spelled accepted lawful within quiet written =
       ⊎_elim
       (λ w.
       subst (HasCauseFor words before after) (sym w.0) (run_cause words before after report.ending (record {
@@ -54,9 +53,9 @@ module _ (words : List (Bor (List ℕ))) (before after : Streams) (asked : IsRun
         document = document;
         spelled = spelled;
         accepted = accepted;
-        reported = record { report = report; lawful = lawful; written = w.1; quiet = quiet w.0; ending = refl };
+        reported = record { report = report; lawful = lawful; within = within; written = w.1; quiet = quiet w.0; ending = refl };
       })))
-      (λ r. ⊎_elim (λ f. subst (HasCauseFor words before after) (sym f.0) f.1) (λ m. subst (HasCauseFor words before after) (sym m.0) (asked, m.1)) r)
+      (λ r. ⊎_elim (λ f. subst (HasCauseFor words before after) (sym f.0) f.1) (λ m. subst (HasCauseFor words before after) (sym m.0) (record { asked = asked; quiet = m.1; told = m.2 })) r)
       written
 
 -- bytes spell one document, and are not refused then
@@ -112,7 +111,7 @@ module _ (words : List (Bor (List ℕ))) (before after : Streams) where
   usage_told Usage cause other = inl refl
   usage_told ReadFault cause other = absurd (other cause.asked)
   usage_told WriteFault cause other = inr refl
-  usage_told Memory cause other = absurd (other cause.0)
+  usage_told Memory cause other = absurd (other cause.asked)
 
   -- refused bytes are not run
   not_run : (status : Status) → IsRefusable words before after → IsRun words before after status → ⊥

@@ -1,5 +1,5 @@
 -- The choice of a node is a firing that it can make, and where there is none it can make none.
-use Rattle.std.proofs.Common.{◌≡◌, ℕ, suc, ◌<◌, ◌⊎◌, List, [], ◌∷◌, length, slice_get, slice_index_or, Option, Some, None, Contains, refl, sym, ap, ◌∙◌, subst, inl, inr, ⊎_elim, Bool, true, false, not, ◌&&◌, ◌||◌, cond, arith}
+use Rattle.std.proofs.Common.{◌≡◌, ℕ, suc, List, [], ◌∷◌, length, slice_get, Option, Some, None, Contains, refl, sym, ap, ◌∙◌, subst, Bool, true, false, not, ◌||◌, cond}
 use Prim.Native.Nat.{zero}
 use Rattle.std.specs.Option.{option_and_then}
 use Rattle.std.specs.List.{list_all, list_any}
@@ -20,7 +20,7 @@ use Rattle.reo_tool.specs.Ends.{is_incoming}
 use Rattle.reo_tool.specs.Offers.{AreOwners, offer_at}
 use Rattle.reo_tool.specs.Choice.{put_value, is_get, is_empty_cell, given_by, takes_by, all_take, first_given, first_of, choice_by}
 use Rattle.reo_tool.specs.Firing.{IsAmong, Gives, Takes, CanFire, IsWithin}
-use Rattle.reo_tool.proofs.OfferLemmas.{IsNextOf, offer_stands, offer_found, next_ops-has, next_ops-only}
+use Rattle.reo_tool.proofs.OfferLemmas.{offer_stands, offer_found, next_ops-has, next_ops-only}
 
 -- tests over lists, by places
 pub passes_at : {X : Type 0} (test : X → Bool) (xs : List X) (i : ℕ) (x : X) → list_all test xs ≡ true → slice_get xs i ≡ Some x → test x ≡ true

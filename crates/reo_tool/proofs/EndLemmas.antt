@@ -1,8 +1,8 @@
 -- The ends at a node are its names, in order.
-use Rattle.std.proofs.Common.{◌≡◌, ◌≢◌, ℕ, suc, ◌+◌, ◌*◌, ◌<◌, ◌≤◌, ◌⊎◌, List, [], ◌∷◌, ◌++◌, length, slice_get, map, filter, Option, Some, None, refl, sym, ap, ◌∙◌, subst, inl, inr, ⊎_elim, Bool, true, false, cond, eqb, arith, append_assoc}
+use Rattle.std.proofs.Common.{◌≡◌, ℕ, suc, ◌+◌, ◌⊎◌, List, [], ◌∷◌, ◌++◌, length, slice_get, Some, refl, sym, ap, ◌∙◌, subst, inl, inr, ⊎_elim, Bool, true, false, cond, eqb, arith}
 use Prim.Native.Nat.{zero}
 use Rattle.std.proofs.lemmas.Bool.{eqb-true, eq-eqb, cond-true, false≢true}
-use Rattle.std.proofs.lemmas.Option.{same_Some, slice_get_within}
+use Rattle.std.proofs.lemmas.Option.{same_Some}
 use Rattle.reo_value.specs.declared.op.Way.{Way}
 use Rattle.reo_value.specs.declared.op.Way.TheVariants as way
 use Rattle.reo_net.specs.declared.circuit.Channel.{Channel}
@@ -10,11 +10,11 @@ use Rattle.reo_net.specs.declared.circuit.Port.{Port}
 use Rattle.reo_net.specs.declared.circuit.Kind.{Kind}
 use Rattle.reo_net.specs.declared.circuit.Kind.TheVariants.{Fifo}
 use Rattle.reo_net.specs.declared.circuit.RawCircuit.{RawCircuit}
-use Rattle.reo_net.specs.Names.{Incoming, Outgoing, direction_of_b, IsIncoming, IsOutgoing, IsNameOf, IsPortAt, IsEndA, IsEndB, end_a, end_b}
+use Rattle.reo_net.specs.Names.{Incoming, Outgoing, direction_of_b, IsIncoming, IsOutgoing}
 use Rattle.reo_tool.specs.declared.ends.End.{End}
 use Rattle.reo_tool.specs.declared.ends.End.TheVariants.{Put, Get, Source, Sink}
 use Rattle.reo_tool.specs.Ends.{is_incoming, end_name, port_end, end_if, port_ends, channel_ends, ends_at}
-use Rattle.reo_tool.proofs.Places.{Stands, stands_head, stands_tail, stands_cases, stands_nowhere, stands_left, stands_right, stands_append}
+use Rattle.reo_tool.proofs.Places.{Stands, stands_head, stands_cases, stands_nowhere, stands_left, stands_right, stands_append}
 
 -- what an end is in the circuit
 abbrev pub IsEndOf : RawCircuit → ℕ → End → Type 0

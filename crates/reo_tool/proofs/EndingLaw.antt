@@ -1,8 +1,8 @@
 -- How a run begins, and how it ends.
-use Rattle.std.proofs.Common.{◌≡◌, ℕ, suc, ◌+◌, ◌<◌, ◌≤◌, List, [], ◌∷◌, ◌++◌, length, slice_get, map, replicate, All, Option, Some, None, refl, sym, ap, ◌∙◌, subst, ⊎_elim, Bool, true, false, ◌&&◌, eqb, arith}
+use Rattle.std.proofs.Common.{◌≡◌, ℕ, suc, ◌<◌, ◌≤◌, List, [], ◌∷◌, length, slice_get, map, replicate, Option, Some, None, refl, sym, ap, ◌∙◌, subst, ⊎_elim, true, false, eqb, arith}
 use Prim.Native.Nat.{zero}
 use Rattle.std.proofs.lemmas.Bool.{and_parts, and_from, eqb-true, eq-eqb, false≢true, cases_lt}
-use Rattle.std.proofs.lemmas.Option.{same_Some, slice_get_within}
+use Rattle.std.proofs.lemmas.Option.{same_Some}
 use Rattle.std.proofs.lemmas.List.{length-replicate}
 use Rattle.std.proofs.lemmas.List.Elements.{All-nil}
 use Rattle.reo_value.specs.declared.op.Op.{Op}
@@ -18,7 +18,7 @@ use Rattle.reo_net.proofs.FifoLemmas.{initial_is_state}
 use Rattle.reo_trace.specs.declared.report.Called.{Called}
 use Rattle.reo_trace.specs.declared.report.Ending.{Ending}
 use Rattle.reo_trace.specs.declared.report.Ending.TheVariants.{Done, Stuck, Limit}
-use Rattle.reo_trace.specs.Lawful.{FiresOneRegion, AllAnswered, AreFirstOf, StandsIn, call_at, next_ops, IsEndingOf, IsLawfulReport}
+use Rattle.reo_trace.specs.Lawful.{FiresOneRegion, AllAnswered, AreFirstOf, call_at, next_ops, IsEndingOf, IsLawfulReport}
 use Rattle.reo_net.specs.declared.circuit.Channel.{Channel}
 use Rattle.reo_net.specs.declared.circuit.Port.{Port}
 use Rattle.reo_tool.specs.declared.ends.End.{End}
@@ -99,24 +99,24 @@ begins c scripts components count = record {
 -- what a report has
 pub is_lawful : (c : RawCircuit) (scripts : List (List Op)) (limit : ℕ) (cells : State) (steps : List Step) (calls : List (List Called)) (ending : Ending) → IsCircuit c → 1 ≤ limit → IsUnderWay c scripts cells steps calls → length steps ≤ limit → IsEndingOf c scripts calls limit (length steps) cells ending → IsLawfulReport c scripts limit (record { steps = steps; calls = calls; ending = ending })
 is_lawful c scripts limit cells steps calls ending circuit some so_far within ended =
-  let roots : List Automaton = map OfNode (range_with_len 0 c.nodes) in
-  let are : AreRegions c roots = nodes_are_regions c circuit in
-  record {
-  final = cells;
-  run = so_far.run;
-  firings = so_far.firings;
-  components = so_far.components;
-  in_order = so_far.in_order;
-  placed = so_far.placed;
-  once = so_far.once;
-  roots = roots;
-  regions = are;
-  bound = ⊎_elim
-      (λ (below : length steps < limit). omega arith)
-      (λ (reached : limit ≤ length steps). (let firing = so_far.firings 0 (record { pairs = [] }) (omega arith) in let found = are.every firing.root firing.region in omega (arith, found.1)))
-      (cases_lt (length steps) limit);
-  ended = ended;
-}
+    let roots : List Automaton = map OfNode (range_with_len 0 c.nodes) in
+    let are : AreRegions c roots = nodes_are_regions c circuit in
+    record {
+      final = cells;
+      run = so_far.run;
+      firings = so_far.firings;
+      components = so_far.components;
+      in_order = so_far.in_order;
+      placed = so_far.placed;
+      once = so_far.once;
+      roots = roots;
+      regions = are;
+      bound = ⊎_elim
+          (λ (below : length steps < limit). omega arith)
+          (λ (reached : limit ≤ length steps). (let firing = so_far.firings 0 (record { pairs = [] }) (omega arith) in let found = are.every firing.root firing.region in omega (arith, found.1)))
+          (cases_lt (length steps) limit);
+      ended = ended;
+    }
 
 -- what a run goes by, from what was read off the circuit and the scripts
 pub is_board : (c : RawCircuit) (scripts : List (List Op)) (junctions : List (List End)) (owners : List (Option ℕ)) (nodes count : ℕ) (ports : List Port) (channels : List Channel) → nodes ≡ c.nodes → ports ≡ c.ports → channels ≡ c.channels → length junctions ≡ nodes → ((node : ℕ) → node < nodes → slice_get junctions node ≡ Some (ends_at ports channels node)) → count ≡ length c.ports → owners ≡ owners_from 0 scripts (replicate count None) → ScriptsFit c scripts → IsBoard c scripts junctions owners

@@ -1,5 +1,5 @@
 -- A firing that a node can make is a step of the product: a connected firing of one region, by what is offered.
-use Rattle.std.proofs.Common.{◌≡◌, ◌≢◌, ℕ, suc, ◌+◌, ◌*◌, ◌<◌, ◌≤◌, ◌⊎◌, List, [], ◌∷◌, length, slice_get, get_or, map, filter, Option, Some, None, IsSome, is_some, IfSome, Contains, refl, sym, ap, ◌∙◌, subst, inl, inr, ⊎_elim, Bool, true, false, not, ◌||◌, eqb, nat_eq, arith}
+use Rattle.std.proofs.Common.{◌≡◌, ◌≢◌, ℕ, ◌<◌, ◌⊎◌, List, [], ◌∷◌, length, slice_get, get_or, map, filter, Option, Some, None, IsSome, is_some, IfSome, Contains, refl, sym, ap, ◌∙◌, subst, inl, inr, ⊎_elim, Bool, true, false, not, ◌||◌, nat_eq, arith}
 use Rattle.std.specs.List.{AllByRecursion}
 use Rattle.std.specs.Map.{lookup}
 use Rattle.std.proofs.Math.Bool.{or-true}
@@ -9,7 +9,6 @@ use Rattle.std.proofs.lemmas.List.Elements.{All-from_recursion}
 use Rattle.reo_value.specs.declared.value.Value.{Value}
 use Rattle.reo_value.specs.declared.op.Op.{Op}
 use Rattle.reo_value.specs.declared.op.Op.TheVariants as op
-use Rattle.reo_value.specs.declared.op.Way.{Way}
 use Rattle.reo_value.specs.declared.op.Way.TheVariants as way
 use Rattle.reo_net.specs.declared.circuit.Kind.{Kind}
 use Rattle.reo_net.specs.declared.circuit.Kind.TheVariants.{Fifo}
@@ -18,10 +17,9 @@ use Rattle.reo_net.specs.declared.circuit.Port.{Port}
 use Rattle.reo_net.specs.declared.circuit.RawCircuit.{RawCircuit}
 use Rattle.reo_net.specs.declared.circuit.Step.{Step}
 use Rattle.reo_net.specs.Names.{name_count, end_a, end_b, IsIncoming, IsOutgoing, IsNameOf}
-use Rattle.reo_net.specs.Steps.{State, IsState, IsStep, datum, Fires, content, is_fifo, ChannelStep, ChannelStays, ChannelMoves, NodeFires, NodeStep, NodeStays, ProductStep}
+use Rattle.reo_net.specs.Steps.{State, IsState, IsStep, datum, Fires, content, ChannelStep, ChannelStays, ChannelMoves, NodeFires, NodeStep, NodeStays, ProductStep}
 use Rattle.reo_net.specs.Runs.{op_at, UsesOffers}
 use Rattle.reo_net.specs.Regions.{OfNode}
-use Rattle.reo_net.specs.Laws.{IsNodeFiring}
 use Rattle.reo_net.proofs.NameLemmas.{one_node, not_both_ways, name_below}
 use Rattle.reo_net.proofs.FifoLemmas.{content_at, state_length, state_from_length}
 use Rattle.reo_net.proofs.RegionLemmas.{node_is_region, connected_from_node}
@@ -29,7 +27,7 @@ use Rattle.reo_trace.specs.Lawful.{FiresOneRegion}
 use Rattle.reo_tool.specs.declared.ends.End.{End}
 use Rattle.reo_tool.specs.declared.ends.End.TheVariants.{Put, Get, Source, Sink}
 use Rattle.reo_tool.specs.Ends.{is_incoming, end_name, ends_at}
-use Rattle.reo_tool.specs.Firing.{IsAmong, Gives, Takes, CanFire, is_same, fires_from, fired_pairs, carried}
+use Rattle.reo_tool.specs.Firing.{IsAmong, Gives, CanFire, is_same, fires_from, fired_pairs, carried}
 use Rattle.reo_tool.proofs.Places.{Stands, stands_head, stands_tail, stands_filter, stands_passing}
 use Rattle.reo_tool.proofs.EndLemmas.{IsEndOf, end_of, end_stands, incoming_name, outgoing_name, end_of_outgoing}
 use Rattle.reo_tool.proofs.PairLemmas.{fired_rise, found_end, end_found}

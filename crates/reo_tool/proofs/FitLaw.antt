@@ -1,10 +1,10 @@
 -- The scripts of a document are for its circuit.
-use Rattle.std.proofs.Common.{◌≡◌, ℕ, List, slice_get, Some, refl, sym, ap, ◌∙◌, subst}
+use Rattle.std.proofs.Common.{◌≡◌, ℕ, List, slice_get, Some, refl, sym, ap, ◌∙◌}
 use Rattle.reo_value.specs.declared.op.Op.{Op}
 use Rattle.reo_value.specs.declared.op.Op.TheVariants as op
 use Rattle.reo_net.specs.declared.circuit.Port.{Port}
 use Rattle.reo_text.specs.Parts.{DocumentData, circuit_of}
-use Rattle.reo_text.specs.Document.{IsDocument, IsOperationOf, HasPort, op_port, op_way}
+use Rattle.reo_text.specs.Document.{IsDocument, IsOperationOf, op_port, op_way}
 use Rattle.reo_trace.specs.Lawful.{port_of}
 use Rattle.reo_tool.specs.Board.{ScriptsFit, way_of}
 

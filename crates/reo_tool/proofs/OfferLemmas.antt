@@ -1,5 +1,5 @@
 -- What stands at a port is its component's next operation, and each component's next operation stands at its port.
-use Rattle.std.proofs.Common.{◌≡◌, ℕ, suc, ◌<◌, List, [], ◌∷◌, ◌++◌, length, slice_get, Option, Some, None, Contains, refl, sym, ap, ◌∙◌, subst, ⊎_elim, eqb, cond, true, arith}
+use Rattle.std.proofs.Common.{◌≡◌, ℕ, suc, List, [], ◌∷◌, length, slice_get, Option, Some, None, Contains, refl, ap, ◌∙◌, subst, ⊎_elim, eqb, arith}
 use Prim.Native.Nat.{zero}
 use Rattle.std.specs.Option.{option_and_then, option_to_list}
 use Rattle.std.proofs.lemmas.Bool.{eqb-true, eq-eqb, cond-true}

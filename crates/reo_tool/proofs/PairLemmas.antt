@@ -1,9 +1,9 @@
 -- The step of a firing: its names rise, and it has the datum at each end that fires.
-use Rattle.std.proofs.Common.{◌≡◌, ◌≢◌, ℕ, suc, ◌+◌, ◌*◌, ◌<◌, ◌≤◌, ◌⊎◌, List, [], ◌∷◌, ◌++◌, length, slice_get, slice_index, map, filter, Option, Some, None, refl, sym, ap, ◌∙◌, subst, inl, inr, ⊎_elim, Bool, true, false, cond, eqb, nat_eq, arith, append_assoc}
+use Rattle.std.proofs.Common.{◌≡◌, ℕ, suc, ◌+◌, ◌*◌, ◌<◌, ◌≤◌, ◌⊎◌, List, [], ◌∷◌, ◌++◌, length, slice_index, map, filter, Some, refl, sym, ap, ◌∙◌, subst, ⊎_elim, Bool, true, false, cond, eqb, nat_eq, arith, append_assoc}
 use Prim.Native.Nat.{zero}
 use Rattle.std.specs.List.Sorted.{IsStrictlyIncreasing}
 use Rattle.std.specs.Map.{lookup}
-use Rattle.std.proofs.lemmas.Bool.{eqb-true, eq-eqb, cond-true, false≢true}
+use Rattle.std.proofs.lemmas.Bool.{eqb-true, eq-eqb}
 use Rattle.std.proofs.lemmas.Option.{same_Some}
 use Rattle.reo_value.specs.declared.value.Value.{Value}
 use Rattle.reo_value.specs.declared.op.Way.{Way}
@@ -11,8 +11,8 @@ use Rattle.reo_value.specs.declared.op.Way.TheVariants as way
 use Rattle.reo_net.specs.declared.circuit.Channel.{Channel}
 use Rattle.reo_net.specs.declared.circuit.Port.{Port}
 use Rattle.reo_tool.specs.declared.ends.End.{End}
-use Rattle.reo_tool.specs.declared.ends.End.TheVariants.{Put, Get, Source, Sink}
-use Rattle.reo_tool.specs.Ends.{is_incoming, end_name, port_end, end_if, port_ends, channel_ends, ends_at}
+use Rattle.reo_tool.specs.declared.ends.End.TheVariants.{Source, Sink}
+use Rattle.reo_tool.specs.Ends.{end_name, port_end, end_if, port_ends, channel_ends, ends_at}
 use Rattle.reo_tool.proofs.Places.{Stands, stands_head, stands_tail, stands_cases, stands_nowhere}
 
 -- the names of the ends rise, from a number on

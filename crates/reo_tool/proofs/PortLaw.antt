@@ -1,26 +1,25 @@
 -- The port that fires, and the offer that is answered there.
-use Rattle.std.proofs.Common.{◌≡◌, ◌≢◌, ℕ, suc, ◌+◌, ◌<◌, ◌⊎◌, List, [], ◌∷◌, length, slice_get, filter, Option, Some, None, Contains, refl, sym, ap, ◌∙◌, subst, inl, inr, ⊎_elim, Bool, true, false, cond, arith}
+use Rattle.std.proofs.Common.{◌≡◌, ℕ, ◌<◌, List, [], ◌∷◌, length, slice_get, Option, Some, None, Contains, refl, sym, ap, ◌∙◌, subst, ⊎_elim, Bool, true, false, cond, arith}
 use Rattle.std.specs.Option.{option_and_then}
-use Rattle.std.proofs.lemmas.Bool.{cases_eq, cond-true, false≢true}
+use Rattle.std.proofs.lemmas.Bool.{cases_eq, cond-true}
 use Rattle.std.proofs.lemmas.Option.{same_Some, option_and_then_some}
 use Rattle.reo_value.specs.declared.value.Value.{Value}
 use Rattle.reo_value.specs.declared.op.Op.{Op}
 use Rattle.reo_value.specs.declared.op.Op.TheVariants as op
 use Rattle.reo_value.specs.declared.op.Way.{Way}
 use Rattle.reo_value.specs.declared.op.Way.TheVariants as way
-use Rattle.reo_net.specs.declared.circuit.Port.{Port}
 use Rattle.reo_net.specs.declared.circuit.RawCircuit.{RawCircuit}
 use Rattle.reo_net.specs.declared.circuit.Step.{Step}
 use Rattle.reo_net.specs.Steps.{State, IsState, datum, Fires}
-use Rattle.reo_net.specs.Checks.{IsChecked, HasTwoPorts}
+use Rattle.reo_net.specs.Checks.{IsChecked}
 use Rattle.reo_trace.specs.declared.report.Called.{Called}
 use Rattle.reo_trace.specs.Lawful.{port_of, next_ops, HasItsValue}
 use Rattle.reo_tool.specs.declared.ends.End.{End}
 use Rattle.reo_tool.specs.declared.ends.End.TheVariants.{Put, Get, Source, Sink}
 use Rattle.reo_tool.specs.declared.offers.Offer.{Offer}
-use Rattle.reo_tool.specs.Ends.{is_incoming, end_name, ends_at}
+use Rattle.reo_tool.specs.Ends.{end_name, ends_at}
 use Rattle.reo_tool.specs.Offers.{AreOwners, offer_at}
-use Rattle.reo_tool.specs.Firing.{IsAmong, Gives, CanFire, fires_from, fired_pairs, fired_port, or_later, port_at, carried}
+use Rattle.reo_tool.specs.Firing.{Gives, CanFire, fires_from, fired_pairs, fired_port, or_later, port_at, carried}
 use Rattle.reo_tool.proofs.OfferLemmas.{IsNextOf, offer_stands, offer_found, next_ops-only}
 use Rattle.reo_tool.proofs.Places.{Stands, stands_head, stands_tail, stands_cases, stands_nowhere}
 use Rattle.reo_tool.proofs.EndLemmas.{IsEndOf, end_of, end_stands}
@@ -127,11 +126,15 @@ module _ (c : RawCircuit) (checked : IsChecked c) (scripts : List (List Op)) (ow
       let port = port_end end.0 p is end.3 in
       let known = offer_stands scripts owners calls p o at in
       let here = offer_here end.0 p is end.2 end.3 in
-      let same : here.0 ≡ o = same_Some here.0 o (sym here.1 ∙ at) in
-      (known.0, ap (datum step) (known.1 ∙ sym port.named) ∙ fired_has c node is_node old was_state (next_ops scripts calls) input value can end.0 is end.2, subst (λ (x : Offer). HasItsValue x.op value) same here.2, λ q within fires.
-      (let other = port_fires q within fires in
-      let at_q = port_end other.0 q other.1 other.3 in
-      one_port q p at_q.way port.way at_q.port port.port ∙ sym known.1)))
+      let same : here.0 ≡ o = same_Some here.0 o (sym here.1 ∙ at) in (
+        known.0,
+        ap (datum step) (known.1 ∙ sym port.named) ∙ fired_has c node is_node old was_state (next_ops scripts calls) input value can end.0 is end.2,
+        subst (λ (x : Offer). HasItsValue x.op value) same here.2,
+        λ q within fires.
+            (let other = port_fires q within fires in
+            let at_q = port_end other.0 q other.1 other.3 in
+            one_port q p at_q.way port.way at_q.port port.port ∙ sym known.1),
+      ))
 
   pub fired_lawfully : Fired c scripts calls old (record { pairs = fired_pairs (length c.ports) (ends_at c.ports c.channels node) input value }) (carried (ends_at c.ports c.channels node) input value old) (option_and_then (offer_at scripts owners calls) (fired_port input (ends_at c.ports c.channels node))) value
   fired_lawfully =

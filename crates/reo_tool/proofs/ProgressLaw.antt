@@ -1,21 +1,20 @@
 -- One firing keeps what was done lawful.
-use Rattle.std.proofs.Common.{◌≡◌, ◌≢◌, ℕ, suc, ◌+◌, ◌<◌, ◌≤◌, ◌⊎◌, List, [], ◌∷◌, ◌++◌, length, slice_get, get_or, set, take, map, filter, All, Option, Some, None, IsSome, Contains, replicate, refl, sym, ap, ◌∙◌, subst, inl, inr, ⊎_elim, true, false, cond, arith, length-set, length-append}
+use Rattle.std.proofs.Common.{◌≡◌, ◌≢◌, ℕ, suc, ◌+◌, ◌<◌, ◌≤◌, ◌⊎◌, List, [], ◌∷◌, ◌++◌, length, slice_get, get_or, take, map, Option, Some, None, refl, sym, ap, ◌∙◌, subst, inl, inr, ⊎_elim, arith, length-set, length-append}
 use Prim.Native.Nat.{zero}
 use Rattle.std.specs.List.Sorted.{IsStrictlyIncreasing}
 use Rattle.std.specs.Option.{option_and_then}
-use Rattle.std.proofs.lemmas.Bool.{cases_eq, cases_lt, false≢true}
-use Rattle.std.proofs.lemmas.Option.{same_Some, slice_get_within, get_or_from_slice_get, slice_get-get_or, option_and_then_some}
-use Rattle.std.proofs.lemmas.List.{map-append, take_more, length-map}
+use Rattle.std.proofs.lemmas.Bool.{cases_eq, cases_lt}
+use Rattle.std.proofs.lemmas.Option.{same_Some, slice_get_within, get_or_from_slice_get, slice_get-get_or}
+use Rattle.std.proofs.lemmas.List.{map-append, take_more}
 use Rattle.std.proofs.lemmas.List.Elements.{All-append, All-nil, All-cons}
 use Rattle.reo_value.specs.declared.value.Value.{Value}
 use Rattle.reo_value.specs.declared.op.Op.{Op}
-use Rattle.reo_value.specs.declared.op.Op.TheVariants as op
 use Rattle.reo_net.specs.declared.circuit.RawCircuit.{RawCircuit}
 use Rattle.reo_net.specs.declared.circuit.Step.{Step}
 use Rattle.reo_net.specs.Steps.{State, ProductStep, datum, Fires}
 use Rattle.reo_net.specs.Runs.{Run, initial_state}
 use Rattle.reo_trace.specs.declared.report.Called.{Called}
-use Rattle.reo_trace.specs.Lawful.{port_of, HasItsValue, FiresOneRegion, AreFirstOf, StandsIn, call_at, IsCallOf, IsAnsweredOnce}
+use Rattle.reo_trace.specs.Lawful.{port_of, HasItsValue, FiresOneRegion, AreFirstOf, StandsIn, call_at, IsAnsweredOnce}
 use Rattle.reo_tool.specs.declared.offers.Offer.{Offer}
 use Rattle.reo_tool.specs.Progress.{answered, called}
 use Rattle.reo_tool.specs.UnderWay.{IsUnderWay}

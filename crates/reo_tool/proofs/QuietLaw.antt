@@ -1,8 +1,8 @@
 -- Where something is enabled, some node can fire.
-use Rattle.std.proofs.Common.{◌≡◌, ◌≢◌, ℕ, ◌+◌, ◌*◌, ◌<◌, ◌≤◌, ◌⊎◌, List, [], ◌∷◌, length, slice_get, get_or, Option, Some, None, IsSome, Contains, refl, sym, ap, ◌∙◌, subst, inl, inr, ⊎_elim, true, false, cond, eqb, nat_eq, arith}
+use Rattle.std.proofs.Common.{◌≡◌, ◌≢◌, ℕ, ◌<◌, List, [], ◌∷◌, length, slice_get, get_or, Option, Some, None, refl, sym, ap, ◌∙◌, subst, ⊎_elim, true, eqb, nat_eq, arith}
 use Rattle.std.specs.Map.{lookup}
 use Rattle.std.proofs.lemmas.Bool.{eq-eqb, cond-true, false≢true}
-use Rattle.std.proofs.lemmas.Option.{same_Some, slice_get_within}
+use Rattle.std.proofs.lemmas.Option.{slice_get_within}
 use Rattle.reo_value.specs.declared.value.Value.{Value}
 use Rattle.reo_value.specs.declared.op.Op.{Op}
 use Rattle.reo_value.specs.declared.op.Way.TheVariants as way
@@ -11,8 +11,8 @@ use Rattle.reo_net.specs.declared.circuit.Kind.TheVariants.{Fifo}
 use Rattle.reo_net.specs.declared.circuit.Channel.{Channel}
 use Rattle.reo_net.specs.declared.circuit.RawCircuit.{RawCircuit}
 use Rattle.reo_net.specs.declared.circuit.Step.{Step}
-use Rattle.reo_net.specs.Names.{name_count, end_a, end_b, IsNameOf}
-use Rattle.reo_net.specs.Steps.{State, IsState, datum, content, ChannelStep, NodeStep, ProductStep}
+use Rattle.reo_net.specs.Names.{name_count, end_a, end_b}
+use Rattle.reo_net.specs.Steps.{State, datum, content, ChannelStep, NodeStep}
 use Rattle.reo_net.specs.Runs.{IsEnabled}
 use Rattle.reo_net.specs.Checks.{IsCircuit}
 use Rattle.reo_net.proofs.NameLemmas.{node_of_name_below}

@@ -1,5 +1,5 @@
 -- What a call of the program may answer, and what it has read and written then.
-use Rattle.std.specs.Prelude.{◌≡◌, ℕ, ◌+◌, ◌≤◌, ◌⊎◌, List, [], ◌∷◌, ◌++◌, length, map, Some, IsErrOf, codes}
+use Rattle.std.specs.Prelude.{◌≡◌, ℕ, ◌+◌, ◌≤◌, ◌⊎◌, List, [], ◌∷◌, length, map, Some, codes}
 use Rattle.std.specs.declared.option.Option.{Option}
 use Rattle.std.specs.Borrow.{Bor}
 use Rattle.reo_base.specs.Faults.{Rose}
@@ -17,7 +17,7 @@ use Rattle.reo_trace.specs.ReportText.{report_text}
 use Rattle.reo_tool.specs.declared.status.Status.{Status}
 use Rattle.reo_tool.specs.declared.status.Status.TheVariants.{Done, Stuck, Limit, Refused, Usage, ReadFault, WriteFault, Memory}
 use Rattle.reo_tool.specs.Status.{status_of}
-use Rattle.reo_tool.specs.FaultText.{usage_text, read_failed_text, too_long_text, line_text, check_text}
+use Rattle.reo_tool.specs.FaultText.{usage_text, read_failed_text, too_long_text, out_of_memory_text, line_text, check_text}
 
 -- the words are `run --plain`
 abbrev pub IsRunPlain : List (Bor (List ℕ)) → Type 0
@@ -44,11 +44,12 @@ pub record Streams : Type 0 where
 abbrev pub IsAccepted : DocumentData → Type 0
 IsAccepted document = IsChecked (circuit_of document)
 
--- The report of a document: it is lawful for the document and the limit, its whole text was written to the one sink,
--- nothing to the other, and the status is its ending.
+-- The report of a document: it is lawful for the document and the limit, with no step past the limit, its whole text was
+-- written to the one sink, nothing to the other, and the status is its ending.
 pub record IsReported (document : DocumentData) (before after : Streams) (status : Status) : Type 0 where
   pub report : Report
   pub lawful : IsLawfulReport (circuit_of document) document.scripts most_steps report
+  pub within : length report.steps ≤ most_steps
   pub written : IsExtended before.out after.out (report_text (circuit_of document) document.nodes document.texts document.people report)
   pub quiet : after.err ≡ before.err
   pub ending : status ≡ status_of report.ending
@@ -103,7 +104,13 @@ pub record IsReadFaultCall (words : List (Bor (List ℕ))) (before after : Strea
 abbrev pub SinkRose : Streams → Streams → Type 0
 SinkRose before after = Rose before.out_faults after.out_faults ⊎ Rose before.err_faults after.err_faults
 
--- The cause of each status. Want of memory needs none; nothing was written to the output then.
+-- Want of memory needs no cause; nothing was written to the output, and the text for it was.
+pub record IsMemoryCall (words : List (Bor (List ℕ))) (before after : Streams) : Type 0 where
+  pub asked : IsRunPlain words
+  pub quiet : after.out ≡ before.out
+  pub told : IsExtended before.err after.err out_of_memory_text
+
+-- the cause of each status
 abbrev pub HasCauseFor : List (Bor (List ℕ)) → Streams → Streams → Status → Type 0
 HasCauseFor words before after Done = IsRun words before after Done
 HasCauseFor words before after Stuck = IsRun words before after Stuck
@@ -112,22 +119,22 @@ HasCauseFor words before after Refused = IsRefusedCall words before after
 HasCauseFor words before after Usage = IsUsageCall words before after
 HasCauseFor words before after ReadFault = IsReadFaultCall words before after
 HasCauseFor words before after WriteFault = SinkRose before after
-HasCauseFor words before after Memory = IsRunPlain words × (after.out ≡ before.out)
+HasCauseFor words before after Memory = IsMemoryCall words before after
 
 -- the write succeeded, and the status stands, or it failed
 abbrev pub Told : Status → Option (List ℕ) → Option (List ℕ) → ℕ → ℕ → List ℕ → Status → Type 0
 Told status old new before now text result =
     ((result ≡ status) × IsExtended old new text) ⊎ ((result ≡ WriteFault) × Rose before now)
 
--- the same, or memory was wanting
+-- the same, or memory was wanting, and its text was written
 abbrev pub ToldOrMemory : Status → Option (List ℕ) → Option (List ℕ) → ℕ → ℕ → List ℕ → Status → Type 0
 ToldOrMemory status old new before now text result =
-    ((result ≡ status) × IsExtended old new text) ⊎ (((result ≡ WriteFault) × Rose before now) ⊎ (result ≡ Memory))
+    ((result ≡ status) × IsExtended old new text) ⊎ (((result ≡ WriteFault) × Rose before now) ⊎ ((result ≡ Memory) × IsExtended old new out_of_memory_text))
 
 -- the report was written whole, or a write failed, or memory was wanting and nothing was written to the output
-abbrev pub WrittenOut : RawCircuit → DocumentData → Report → Option (List ℕ) → Option (List ℕ) → ℕ → ℕ → ℕ → ℕ → Status → Type 0
-WrittenOut c document report old new before now err_before err_now result =
-    ((result ≡ status_of report.ending) × IsExtended old new (report_text c document.nodes document.texts document.people report)) ⊎ (((result ≡ WriteFault) × (Rose before now ⊎ Rose err_before err_now)) ⊎ ((result ≡ Memory) × (new ≡ old)))
+abbrev pub WrittenOut : RawCircuit → DocumentData → Report → Option (List ℕ) → Option (List ℕ) → ℕ → ℕ → Option (List ℕ) → Option (List ℕ) → ℕ → ℕ → Status → Type 0
+WrittenOut c document report old new before now err_old err_new err_before err_now result =
+    ((result ≡ status_of report.ending) × IsExtended old new (report_text c document.nodes document.texts document.people report)) ⊎ (((result ≡ WriteFault) × (Rose before now ⊎ Rose err_before err_now)) ⊎ ((result ≡ Memory) × (new ≡ old) × IsExtended err_old err_new out_of_memory_text))
 
 -- the words and the input do not rule out that the whole report is written
 pub record IsPromised (words : List (Bor (List ℕ))) (before after : Streams) (document : DocumentData) (status : Status) : Type 0 where
@@ -160,7 +167,6 @@ pub record IsOverlong (words : List (Bor (List ℕ))) (before after : Streams) :
   pub input : List ℕ
   pub told : before.left ≡ Some input
   pub long : most_bytes + 1 ≤ length input
-  pub source_held : Rose before.source_faults after.source_faults → ⊥
 
 -- this status, or one that stands above it: a write failed, or memory was wanting
 abbrev pub IsOrAbove : Status → Status → Type 0

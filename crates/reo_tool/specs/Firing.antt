@@ -1,6 +1,6 @@
 -- What a node may do in a state of a circuit of FIFO1 channels, under what the components offer: which of its ends give
 -- a datum, which take one, and what is left when they fire.
-use Rattle.std.specs.Prelude.{◌≡◌, ◌≢◌, ℕ, ◌*◌, ◌+◌, Bool, true, false, not, ◌||◌, ◌==◌, ◌<◌, if◌then◌else◌, List, [], ◌∷◌, length, slice_set, slice_get, slice_index_or, map, filter, Contains, Option, Some, None}
+use Rattle.std.specs.Prelude.{◌≡◌, ◌≢◌, ℕ, Bool, false, not, ◌||◌, ◌==◌, ◌<◌, if◌then◌else◌, List, [], ◌∷◌, length, slice_set, slice_get, slice_index_or, map, filter, Contains, Option, Some, None}
 use Rattle.reo_value.specs.declared.value.Value.{Value}
 use Rattle.reo_value.specs.declared.op.Op.{Op}
 use Rattle.reo_value.specs.declared.op.Op.TheVariants as op

@@ -1,5 +1,5 @@
 -- When a run is done.
-use Rattle.std.specs.Prelude.{ℕ, ◌==◌, Bool, true, false, ◌&&◌, List, [], ◌∷◌, length}
+use Rattle.std.specs.Prelude.{◌==◌, Bool, true, ◌&&◌, List, [], ◌∷◌, length}
 use Rattle.reo_value.specs.declared.op.Op.{Op}
 use Rattle.reo_trace.specs.declared.report.Called.{Called}
 

@@ -1,7 +1,6 @@
 -- A run that is under way: what it did so far is lawful.
 use Rattle.std.specs.Prelude.{◌≡◌, ℕ, ◌<◌, List, length, slice_get, All, Some}
 use Rattle.reo_value.specs.declared.op.Op.{Op}
-use Rattle.reo_net.specs.declared.circuit.Port.{Port}
 use Rattle.reo_net.specs.declared.circuit.RawCircuit.{RawCircuit}
 use Rattle.reo_net.specs.declared.circuit.Step.{Step}
 use Rattle.reo_net.specs.Steps.{State, IsState, Fires}

@@ -9,7 +9,7 @@ ghost use Rattle.reo_text.specs.Parts.{DocumentData, circuit_of};
 ghost use Rattle.reo_trace.specs.Lawful.{IsLawfulReport};
 ghost use Rattle.reo_base.specs.Faults.{Rose};
 ghost use Rattle.reo_tool.specs.Status.{status_of};
-ghost use Rattle.reo_tool.specs.FaultText.{line_text, check_text};
+ghost use Rattle.reo_tool.specs.FaultText.{line_text, check_text, out_of_memory_text};
 ghost use Rattle.reo_tool.specs.Call.{IsRunPlain, most_steps, HasCauseFor, most_bytes, WrittenOut, Told, ToldOrMemory, IsPromised, IsReported, IsRefusable, IsOverlong, IsOrAbove};
 
 use crate::fault_text::{OUT_OF_MEMORY, READ_FAILED, TOO_LONG, USAGE, check_text, line_text};
@@ -18,8 +18,8 @@ use crate::status::{Status, unless_fault};
 use reo_base::{ReadRefusal, Sink, Source, read_all, write_whole};
 use reo_net::{CheckRefusal, Net, check};
 use reo_text::{Document, TextRefusal, read_document};
-use reo_value::Lexicon;
 use reo_trace::{Report, WriteRefusal, write_report};
+use reo_value::Lexicon;
 use std::alloc::{AllocError, Global};
 
 /// The most bytes of a document.
@@ -44,16 +44,15 @@ pub fn checked(alloc: Global, document: &Document) -> Result<Net, CheckRefusal>
     ensures accepted { OnOk result (IsChecked (circuit_of document.now)) }
     ensures refused { IfErr result (Refuses (circuit_of document.now)) }
 {
-    let raw = document
-        .circuit(alloc)
-        .map_err(|_| CheckRefusal::NoMemory)?;
+    let raw = document.circuit(alloc).map_err(|_| CheckRefusal::NoMemory)?;
     check(alloc, &raw)
 }
 
 /// Runs a document's scripts on its net.
 fn report_of(alloc: Global, document: &Document, net: &Net) -> Result<Report, AllocError>
     requires { net.now ≡ circuit_of document.now }
-    ensures { IfOk result (IsLawfulReport (circuit_of document.now) document.now.scripts most_steps) }
+    ensures lawful { IfOk result (IsLawfulReport (circuit_of document.now) document.now.scripts most_steps) }
+    ensures within { IfOk result (λ report. length report.steps ≤ most_steps) }
 {
     run(alloc, net, document.scripts(), MOST_STEPS)
 }
@@ -67,8 +66,8 @@ fn tell<E: Sink>(err: &mut E, text: &[u8], status: Status) -> Status
 }
 
 /// Tells that memory is wanting.
-fn tell_memory<E: Sink>(err: &mut E) -> Status
-    ensures told { (result ≡ Status.Memory) ⊎ ((result ≡ Status.WriteFault) × Rose (E.faults err.old) (E.faults err.new)) }
+pub fn tell_memory<E: Sink>(err: &mut E) -> Status
+    ensures told { Told Status.Memory (E.written err.old) (E.written err.new) (E.faults err.old) (E.faults err.new) out_of_memory_text result }
 {
     tell(err, OUT_OF_MEMORY, Status::Memory)
 }
@@ -93,7 +92,12 @@ fn is_want_of_memory(refusal: CheckRefusal) -> bool
 }
 
 /// Tells why a circuit is refused.
-fn tell_circuit<E: Sink>(alloc: Global, err: &mut E, nodes: &Lexicon, refusal: CheckRefusal) -> Status
+fn tell_circuit<E: Sink>(
+    alloc: Global,
+    err: &mut E,
+    nodes: &Lexicon,
+    refusal: CheckRefusal,
+) -> Status
     ensures told { ToldOrMemory Status.Refused (E.written err.old) (E.written err.new) (E.faults err.old) (E.faults err.new) (check_text nodes.now refusal) result }
     ensures memory { refusal ≡ CheckRefusal.NoMemory → result ≡ Status.Refused → ⊥ }
 {
@@ -116,10 +120,18 @@ fn write_out<K: Sink, E: Sink>(
     report: &Report,
 ) -> Status
     requires { net.now ≡ circuit_of document.now }
-    ensures written { WrittenOut (circuit_of document.now) document.now report.now (K.written out.old) (K.written out.new) (K.faults out.old) (K.faults out.new) (E.faults err.old) (E.faults err.new) result }
+    ensures written { WrittenOut (circuit_of document.now) document.now report.now (K.written out.old) (K.written out.new) (K.faults out.old) (K.faults out.new) (E.written err.old) (E.written err.new) (E.faults err.old) (E.faults err.new) result }
     ensures err { result ≡ status_of report.now.ending → err.new ≡ err.old }
 {
-    match write_report(alloc, out, net, document.nodes(), document.texts(), document.people(), report) {
+    match write_report(
+        alloc,
+        out,
+        net,
+        document.nodes(),
+        document.texts(),
+        document.people(),
+        report,
+    ) {
         Ok(()) => Status::of_ending(report.ending),
         Err(WriteRefusal::Fault(_)) => Status::WriteFault,
         Err(WriteRefusal::NoMemory) => tell_memory(err),

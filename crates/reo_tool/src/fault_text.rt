@@ -25,11 +25,17 @@ pub fn line_text(alloc: Global, line: u32) -> Result<String, AllocError>
 }
 
 /// A circuit that is refused, with the names of its nodes.
-pub fn check_text(alloc: Global, nodes: &Lexicon, refusal: CheckRefusal) -> Result<String, AllocError>
+pub fn check_text(
+    alloc: Global,
+    nodes: &Lexicon,
+    refusal: CheckRefusal,
+) -> Result<String, AllocError>
     ensures { IfOk result (λ text. string_bytes text ≡ check_text nodes.now refusal) }
 {
     match refusal {
-        CheckRefusal::TooManyChannels(count) => format!(in alloc; "reo: {count} channels, 512 allowed\n"),
+        CheckRefusal::TooManyChannels(count) => format!(in alloc;
+            "reo: {count} channels, 512 allowed\n"
+        ),
         CheckRefusal::TooManyPorts(count) => format!(in alloc; "reo: {count} ports, 128 allowed\n"),
         CheckRefusal::PortTwice(node) => {
             let name = node_name(nodes, node);

@@ -12,5 +12,5 @@ mod progress;
 mod schedule;
 mod status;
 
-pub use call::{checked, plain_call};
+pub use call::{checked, plain_call, tell_memory};
 pub use status::Status;

@@ -199,7 +199,8 @@ pub fn run(
     requires fit { ScriptsFit net.now scripts.now }
     requires few { length scripts.now < 2 ^ 32 }
     requires limit { 1 ≤ limit }
-    ensures { IfOk result (IsLawfulReport net.now scripts.now limit) }
+    ensures lawful { IfOk result (IsLawfulReport net.now scripts.now limit) }
+    ensures within { IfOk result (λ report. length report.steps ≤ limit) }
 {
     let junctions = junctions(alloc, net.nodes(), net.ports(), net.channels())?;
     let owners = owners(alloc, net.ports().len(), scripts)?;

@@ -1,8 +1,7 @@
-use Rattle.std.proofs.Common.{List, ℕ, Err, ap, refl, sym, subst}
-use Rattle.reo_net.specs.declared.circuit.RawCircuit.{RawCircuit}
+use Rattle.std.proofs.Common.{List, ℕ, ap, refl, subst}
 use Rattle.reo_tool.specs.declared.status.Status.TheVariants.{Refused}
 use Rattle.reo_tool.specs.FaultText.{check_text}
-use Rattle.reo_tool.specs.Call.{Streams, ToldOrMemory}
+use Rattle.reo_tool.specs.Call.{ToldOrMemory}
 use Rattle.reo_text.specs.Refusal.{IsRefusalOf}
 use Rattle.reo_tool.proofs.CallLaw.{line_cause, circuit_cause, report_cause}
 use Rattle.reo_tool.proofs.call.run_document.Goals as goal
@@ -19,5 +18,5 @@ returns-in-Err g c = record {
 
 pub returns-in-Ok-report_of : goal.returns-in-Ok-report_of
 returns-in-Ok-report_of g c = record {
-  cause = λ words left rest before now asked read. report_cause words (record { left = left; source_faults = before; out = g.K.Sink.written c.args.out.now; out_faults = g.K.Sink.faults c.args.out.now; err = g.E.Sink.written c.args.err.now; err_faults = g.E.Sink.faults c.args.err.now }) (record { left = rest; source_faults = now; out = g.K.Sink.written c.write_out.new.out; out_faults = g.K.Sink.faults c.write_out.new.out; err = g.E.Sink.written c.write_out.new.err; err_faults = g.E.Sink.faults c.write_out.new.err }) asked c.args.bytes.now read c.requires c.in-Ok.document c.in-Ok-report_of.report c.write_out.result c.in-Ok.ensures.spells c.in-Ok-checked.ensures.accepted c.in-Ok-report_of.ensures (λ e. ap g.E.Sink.written (c.write_out.ensures.err e)) c.write_out.ensures.written;
+  cause = λ words left rest before now asked read. report_cause words (record { left = left; source_faults = before; out = g.K.Sink.written c.args.out.now; out_faults = g.K.Sink.faults c.args.out.now; err = g.E.Sink.written c.args.err.now; err_faults = g.E.Sink.faults c.args.err.now }) (record { left = rest; source_faults = now; out = g.K.Sink.written c.write_out.new.out; out_faults = g.K.Sink.faults c.write_out.new.out; err = g.E.Sink.written c.write_out.new.err; err_faults = g.E.Sink.faults c.write_out.new.err }) asked c.args.bytes.now read c.requires c.in-Ok.document c.in-Ok-report_of.report c.write_out.result c.in-Ok.ensures.spells c.in-Ok-checked.ensures.accepted c.in-Ok-report_of.ensures.lawful c.in-Ok-report_of.ensures.within (λ e. ap g.E.Sink.written (c.write_out.ensures.err e)) c.write_out.ensures.written;
 }

@@ -1,4 +1,4 @@
-use Rattle.std.proofs.Common.{◌≡◌, drop, length}
+use Rattle.std.proofs.Common.{◌≡◌, drop}
 use Rattle.reo_tool.specs.Firing.{filled}
 use Rattle.reo_tool.proofs.fire.fill.Given as goal
 

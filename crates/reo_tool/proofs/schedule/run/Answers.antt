@@ -1,4 +1,4 @@
-use Rattle.std.proofs.Common.{◌≡◌, [], List, length, ap, refl, sym, ◌∙◌, subst}
+use Rattle.std.proofs.Common.{◌≡◌, ◌≤◌, [], List, length, ap, refl, sym, ◌∙◌, subst}
 use Rattle.reo_net.specs.Runs.{initial_state, first_content}
 use Rattle.std.specs.List.{flat_map}
 use Rattle.reo_net.specs.declared.circuit.Channel.{Channel}
@@ -23,10 +23,13 @@ run_on-requires-clause-under_way c =
     let cells_are : c.in_ok-first_cells.field-0.items ≡ initial_state net = c.in_ok-first_cells.ensures ∙ ap (flat_map (λ (channel : Channel). first_content channel.kind)) c.channels-2.ensures.channels in
     subst (λ cells. IsUnderWay net scripts cells c.new.result.items c.in_ok-no_calls.field-0.items) (sym cells_are) (subst (λ (steps : List Step). IsUnderWay net scripts (initial_state net) steps c.in_ok-no_calls.field-0.items) (sym c.new.ensures.items) (subst (λ (calls : List (List Called)). IsUnderWay net scripts (initial_state net) [] calls) (sym c.in_ok-no_calls.ensures) (begins net scripts (length scripts) refl)))
 
-pub returns : goal.returns
-returns c =
+pub returns-clause-lawful : goal.returns-clause-lawful
+returns-clause-lawful c =
     let net = c.args.net.now in
     let scripts = c.args.scripts.now in
     let p = c.run_on.new.progress in
     let lawful = is_lawful net scripts c.args.limit p.cells.items p.steps.items p.calls.items c.in_ok-ending.ending c.nodes.ensures.checked.circuit c.requires.limit c.in_ok-ending.ensures.under_way c.in_ok-ending.ensures.within c.in_ok-ending.ensures.ended in
     subst (λ (steps : List Step). IsLawfulReport net scripts c.args.limit (record { steps = steps; calls = c.from_vec-2.result; ending = c.in_ok-ending.ending })) (sym c.from_vec.ensures) (subst (λ (calls : List (List Called)). IsLawfulReport net scripts c.args.limit (record { steps = p.steps.items; calls = calls; ending = c.in_ok-ending.ending })) (sym c.from_vec-2.ensures) lawful)
+
+pub returns-clause-within : goal.returns-clause-within
+returns-clause-within c = subst (λ (steps : List Step). length steps ≤ c.args.limit) (sym c.from_vec.ensures) c.in_ok-ending.ensures.within

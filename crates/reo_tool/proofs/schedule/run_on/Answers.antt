@@ -1,4 +1,4 @@
-use Rattle.std.proofs.Common.{◌≡◌, ◌<◌, ◌≤◌, true, false, length, ap, sym, ◌∙◌, subst, arith}
+use Rattle.std.proofs.Common.{◌<◌, ◌≤◌, length, ap, sym, ◌∙◌, subst}
 use Rattle.reo_tool.specs.Schedule.{same_lengths}
 use Rattle.reo_tool.proofs.EndingLaw.{ends_done, ends_stuck, ends_at_limit}
 use Rattle.reo_tool.proofs.schedule.run_on.Goals as goal
