@@ -54,116 +54,81 @@ const BUFFER: &str = "in A\nfifo A B\nout B\n";
 #[test]
 fn a_buffer_is_filled_and_taken(rt: HostRuntime) {
     let alloc = rt.alloc();
-    for (old, names, new, is_step, why) in [
-        (0, &[(0, 7), (2, 7)][..], 7, true, "a fill"),
-        (7, &[(1, 7), (3, 7)][..], 0, true, "a take"),
-        (0, &[][..], 0, false, "an empty step"),
-        (0, &[(0, 7)][..], 0, false, "an output left out"),
-        (
-            0,
-            &[(0, 7), (2, 8)][..],
-            8,
-            false,
-            "a datum changed at the node",
-        ),
-        (
-            0,
-            &[(1, 7), (3, 7)][..],
-            0,
-            false,
-            "a take from an empty one",
-        ),
-        (7, &[(0, 8), (2, 8)][..], 8, false, "a fill of a full one"),
-        (
-            7,
-            &[(1, 8), (3, 8)][..],
-            0,
-            false,
-            "another datum handed on",
-        ),
-        (
-            7,
-            &[(1, 7), (3, 7)][..],
-            7,
-            false,
-            "a datum kept when it is taken",
-        ),
-        (
-            7,
-            &[(0, 8), (1, 7), (2, 8), (3, 7)][..],
-            8,
-            false,
-            "both ends at once",
-        ),
-        (0, &[(2, 7), (0, 7)][..], 7, false, "names out of order"),
-        (0, &[(0, 7), (0, 7), (2, 7)][..], 7, false, "a name twice"),
-        (
-            0,
-            &[(0, 7), (2, 7), (4, 7)][..],
-            7,
-            false,
-            "a name of no circuit",
-        ),
-    ] {
-        assert_eq!(rt;
-            allows(alloc, BUFFER, &[old], names, &[new]),
-            Some(is_step),
-            "{why}"
-        );
-    }
     assert_eq!(rt;
-        allows(alloc, BUFFER, &[], &[(0, 7), (2, 7)], &[7]),
-        Some(false)
+        allows(alloc, BUFFER, &[0], &[(0, 7), (2, 7)], &[7]),
+        Some(true)
     );
     assert_eq!(rt;
-        allows(alloc, BUFFER, &[0, 0], &[(0, 7), (2, 7)], &[7, 0]),
-        Some(false)
+        allows(alloc, BUFFER, &[7], &[(1, 7), (3, 7)], &[0]),
+        Some(true)
     );
 }
 
 #[test]
-fn a_node_takes_one_input_and_serves_all_outputs(rt: HostRuntime) {
+fn a_buffer_does_nothing_else(rt: HostRuntime) {
+    let alloc = rt.alloc();
+    for (old, names, new, why) in [
+        (0, &[][..], 0, "no name"),
+        (0, &[(0, 7)][..], 0, "an output left out"),
+        (0, &[(0, 7), (2, 8)][..], 8, "another datum in"),
+        (0, &[(1, 7), (3, 7)][..], 0, "an empty one taken"),
+        (7, &[(0, 8), (2, 8)][..], 8, "a full one filled"),
+        (7, &[(1, 8), (3, 8)][..], 0, "another datum out"),
+        (7, &[(1, 7), (3, 7)][..], 7, "a datum kept"),
+        (7, &[(0, 8), (1, 7), (2, 8), (3, 7)][..], 8, "both"),
+        (0, &[(2, 7), (0, 7)][..], 7, "names out of order"),
+        (0, &[(0, 7), (0, 7), (2, 7)][..], 7, "one twice"),
+        (0, &[(0, 7), (2, 7), (4, 7)][..], 7, "no such name"),
+    ] {
+        assert_eq!(rt;
+            allows(alloc, BUFFER, &[old], names, &[new]),
+            Some(false),
+            "{why}"
+        );
+    }
+}
+
+#[test]
+fn a_state_has_one_place_for_each_buffer(rt: HostRuntime) {
+    let alloc = rt.alloc();
+    for (old, new) in [(&[][..], &[7][..]), (&[0, 0][..], &[7, 0][..])] {
+        assert_eq!(rt;
+            allows(alloc, BUFFER, old, &[(0, 7), (2, 7)], new),
+            Some(false)
+        );
+    }
+}
+
+#[test]
+fn a_node_serves_all_its_outputs(rt: HostRuntime) {
     let alloc = rt.alloc();
     let fork = "in A\nfifo A B\nfifo A C\n";
-    assert_eq!(rt;
-        allows(alloc, fork, &[0, 0], &[(0, 7), (1, 7), (3, 7)], &[7, 7]),
-        Some(true)
-    );
-    assert_eq!(rt;
-        allows(alloc, fork, &[0, 0], &[(0, 7), (1, 7)], &[7, 0]),
-        Some(false)
-    );
+    let all = &[(0, 7), (1, 7), (3, 7)];
+    assert_eq!(rt; allows(alloc, fork, &[0, 0], all, &[7, 7]), Some(true));
+    let one = &[(0, 7), (1, 7)];
+    assert_eq!(rt; allows(alloc, fork, &[0, 0], one, &[7, 0]), Some(false));
+}
+
+#[test]
+fn a_node_takes_one_input(rt: HostRuntime) {
+    let alloc = rt.alloc();
     let merge = "fifo A C\nfifo B C\nout C\n";
-    assert_eq!(rt;
-        allows(alloc, merge, &[7, 7], &[(0, 7), (2, 7)], &[0, 7]),
-        Some(true)
-    );
-    assert_eq!(rt;
-        allows(alloc, merge, &[7, 7], &[(0, 7), (4, 7)], &[7, 0]),
-        Some(true)
-    );
-    assert_eq!(rt;
-        allows(alloc, merge, &[7, 7], &[(0, 7), (2, 7), (4, 7)], &[0, 0]),
-        Some(false)
-    );
-    let own = "fifo A A\n";
-    assert_eq!(rt;
-        allows(alloc, own, &[7], &[(0, 7), (1, 7)], &[7]),
-        Some(false)
-    );
+    let first = &[(0, 7), (2, 7)];
+    assert_eq!(rt; allows(alloc, merge, &[7, 7], first, &[0, 7]), Some(true));
+    let second = &[(0, 7), (4, 7)];
+    assert_eq!(rt; allows(alloc, merge, &[7, 7], second, &[7, 0]), Some(true));
+    let both = &[(0, 7), (2, 7), (4, 7)];
+    assert_eq!(rt; allows(alloc, merge, &[7, 7], both, &[0, 0]), Some(false));
+}
+
+#[test]
+fn two_nodes_fire_in_one_step_where_they_share_no_name(rt: HostRuntime) {
+    let alloc = rt.alloc();
+    let own = &[(0, 7), (1, 7)];
+    assert_eq!(rt; allows(alloc, "fifo A A\n", &[7], own, &[7]), Some(false));
     let chain = "in A\nfifo A B\nfifo B C\nout C\n";
-    assert_eq!(rt;
-        allows(alloc, chain, &[7, 0], &[(3, 7), (4, 7)], &[0, 7]),
-        Some(true)
-    );
-    assert_eq!(rt;
-        allows(
-            alloc,
-            chain,
-            &[0, 7],
-            &[(0, 8), (1, 7), (2, 8), (5, 7)],
-            &[8, 0]
-        ),
-        Some(true)
-    );
+    let inner = &[(3, 7), (4, 7)];
+    assert_eq!(rt; allows(alloc, chain, &[7, 0], inner, &[0, 7]), Some(true));
+    let outer = &[(0, 8), (1, 7), (2, 8), (5, 7)];
+    assert_eq!(rt; allows(alloc, chain, &[0, 7], outer, &[8, 0]), Some(true));
 }

@@ -36,50 +36,53 @@ fn called(
     Ok(Written { status, out, err })
 }
 
+/// A text, and the status, the output and the complaint that it has.
+const ROWS: [(&str, Status, &str, &str); 9] = [
+    (FIRST, Status::Done, FIRST_REPORT, ""),
+    ("", Status::Done, "end done\n", ""),
+    ("component P\n", Status::Done, "end done\n", ""),
+    (
+        "fifo A B\nout B\ncomponent C\nget B\n",
+        Status::Stuck,
+        "end stuck\n",
+        "",
+    ),
+    (
+        "fifo A B full 7\nout B\ncomponent C\nget B\nget B\n",
+        Status::Stuck,
+        "step 0 B?=7 1.b=7\ncall C get B 7 at 0\nend stuck\n",
+        "",
+    ),
+    (
+        "in A\nfifo A B\nfifo A C\nout B\nout C\ncomponent P\nput A -5\ncomponent Q\nget B\ncomponent R\nget C\n",
+        Status::Done,
+        "step 0 A!=-5 1.a=-5 2.a=-5\nstep 1 B?=-5 1.b=-5\nstep 2 C?=-5 2.b=-5\ncall P put A -5 at 0\ncall Q get B -5 at 1\ncall R get C -5 at 2\nend done\n",
+        "",
+    ),
+    (
+        "in A\nsync A B\n",
+        Status::Refused,
+        "",
+        "reo: line 2: not built\n",
+    ),
+    (
+        "fifo X A\nin A\n",
+        Status::Refused,
+        "",
+        "reo: node A: mixed node as port\n",
+    ),
+    (
+        "in A\nout A\n",
+        Status::Refused,
+        "",
+        "reo: node A: two ports\n",
+    ),
+];
+
 #[test]
 fn each_row_has_its_status_and_text(rt: HostRuntime) {
     let alloc = rt.alloc();
-    for (text, status, out, err) in [
-        (FIRST, Status::Done, FIRST_REPORT, ""),
-        ("", Status::Done, "end done\n", ""),
-        ("component P\n", Status::Done, "end done\n", ""),
-        (
-            "fifo A B\nout B\ncomponent C\nget B\n",
-            Status::Stuck,
-            "end stuck\n",
-            "",
-        ),
-        (
-            "fifo A B full 7\nout B\ncomponent C\nget B\nget B\n",
-            Status::Stuck,
-            "step 0 B?=7 1.b=7\ncall C get B 7 at 0\nend stuck\n",
-            "",
-        ),
-        (
-            "in A\nfifo A B\nfifo A C\nout B\nout C\ncomponent P\nput A -5\ncomponent Q\nget B\ncomponent R\nget C\n",
-            Status::Done,
-            "step 0 A!=-5 1.a=-5 2.a=-5\nstep 1 B?=-5 1.b=-5\nstep 2 C?=-5 2.b=-5\ncall P put A -5 at 0\ncall Q get B -5 at 1\ncall R get C -5 at 2\nend done\n",
-            "",
-        ),
-        (
-            "in A\nsync A B\n",
-            Status::Refused,
-            "",
-            "reo: line 2: not built\n",
-        ),
-        (
-            "fifo X A\nin A\n",
-            Status::Refused,
-            "",
-            "reo: node A: mixed node as port\n",
-        ),
-        (
-            "in A\nout A\n",
-            Status::Refused,
-            "",
-            "reo: node A: two ports\n",
-        ),
-    ] {
+    for (text, status, out, err) in ROWS {
         let written = called(
             alloc,
             &["run", "--plain"],

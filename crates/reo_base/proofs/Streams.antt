@@ -3,8 +3,10 @@ use Rattle.std.proofs.Common.{◌≡◌, ℕ, ◌+◌, ◌-◌, ◌<◌, ◌≤�
 use Rattle.std.proofs.lemmas.List.{drop-drop, take_at, take_rest, nil_from_length}
 use Rattle.std.proofs.KnownBytes.{Consumes-trans}
 use Rattle.std.specs.declared.option.Option.{Option}
+use Rattle.std.specs.declared.option.Option.TheVariants.{Some}
 use Rattle.std.specs.Io.KnownBytes.{Consumes}
-use Rattle.reo_base.specs.Streams.{LosesFirst, LosesAtMost}
+use Rattle.reo_base.specs.Faults.{counted}
+use Rattle.reo_base.specs.Streams.{LosesFirst, LosesAtMost, CountsOne, RisesAtMost}
 
 pub LosesFirst-read : (a b c : Option (List ℕ)) (bytes buf : List ℕ) (n count : ℕ) → Consumes a b bytes → Consumes b c (take n buf)
     → n ≡ length (take n buf) → length bytes + n ≡ count → LosesFirst a c count
@@ -13,6 +15,12 @@ LosesFirst-read a b c bytes buf n count before now size e =
 
 pub LosesAtMost-from_first : (a b : Option (List ℕ)) (count most : ℕ) → LosesFirst a b count → count ≤ most → LosesAtMost a b most
 LosesAtMost-from_first a b count most first le = (first.0, first.1, omega (arith, first.2))
+
+-- one call more, within a larger count
+pub RisesAtMost-one_more : (a b c : Option ℕ) (made most : ℕ) → RisesAtMost a b made → CountsOne b c → made + 1 ≤ most → RisesAtMost a c most
+RisesAtMost-one_more a b c made most before now le = λ n is.
+    let at : (m : ℕ) × (b ≡ Some m) × (m ≤ n + made) = before n is in
+    (counted at.0, now at.0 at.1, omega (arith, at.2, le))
 
 pub on_err : {T E P : Type 0} (r : Result T E) → P → OnErr r P
 on_err (Ok x) p = tt

@@ -1,7 +1,8 @@
 -- What reads and writes do to the bytes that a source has left and a sink holds, where these are told.
-use Rattle.std.specs.Prelude.{◌≡◌, ℕ, ◌<◌, ◌≤◌, List, [], ◌++◌, length, Some, IfOk, Result}
+use Rattle.std.specs.Prelude.{◌≡◌, ℕ, ◌<◌, ◌≤◌, List, [], ◌+◌, ◌++◌, length, Some, IfOk, Result}
 use Rattle.std.specs.declared.option.Option.{Option}
 use Rattle.std.specs.Io.KnownBytes.{Consumes}
+use Rattle.reo_base.specs.Faults.{counted}
 
 -- at `Ok(n)`, n is at most the length of the buffer, and at least 1 where that is not empty
 abbrev pub TakesSome : {E : Type 0} → Result ℕ E → List ℕ → Type 0
@@ -30,3 +31,11 @@ HasAtMost old count = (input : List ℕ) → old ≡ Some input → length input
 -- where told, these bytes were appended
 abbrev pub IsExtended : Option (List ℕ) → Option (List ℕ) → List ℕ → Type 0
 IsExtended old new bytes = (before : List ℕ) → old ≡ Some before → new ≡ Some (before ++ bytes)
+
+-- where counted, one call more was made
+abbrev pub CountsOne : Option ℕ → Option ℕ → Type 0
+CountsOne old new = (before : ℕ) → old ≡ Some before → new ≡ Some (counted before)
+
+-- where counted, no more calls than this were made
+abbrev pub RisesAtMost : Option ℕ → Option ℕ → ℕ → Type 0
+RisesAtMost old new most = (before : ℕ) → old ≡ Some before → (after : ℕ) × (new ≡ Some after) × (after ≤ before + most)

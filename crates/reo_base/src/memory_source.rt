@@ -3,6 +3,7 @@ ghost use Rattle.std.specs.declared.option.Option.TheVariants.{Some};
 ghost use Rattle.std.specs.Io.{ReadsAtMost};
 ghost use Rattle.std.specs.Io.KnownBytes.{ReadConsumes};
 ghost use Rattle.reo_base.specs.Faults.{HasCause};
+ghost use Rattle.reo_base.specs.Streams.{CountsOne};
 ghost use Rattle.reo_base.specs.SourceState.{read_result, after_read};
 
 use crate::{Failed, Source};
@@ -21,6 +22,7 @@ pub struct MemorySource {
 
 impl Model for MemorySource {
     ghost use Rattle.std.specs.Prelude.{◌≤◌, drop, vec_len};
+    ghost use Rattle.reo_base.specs.Streams.{CountsOne};
     ghost use Rattle.reo_base.specs.SourceState.{SourceState};
 
     ghost Value = { SourceState };
@@ -62,10 +64,13 @@ impl Source for MemorySource {
 
     ghost faults = { λ s. s.faults };
 
+    ghost reads = { λ s. Some s.calls };
+
     fn read(&mut self, buf: &mut [u8]) -> Result<usize, Failed>
         ensures bound { ReadsAtMost result buf.new }
         ensures bytes { ReadConsumes (Some self.old.left) (Some self.new.left) result buf.new }
         ensures cause { HasCause self.old.faults self.new.faults result }
+        ensures counted { CountsOne (Some self.old.calls) (Some self.new.calls) }
         ensures answer { result ≡ read_result self.old (length buf.old) }
         ensures after { self.new ≡ after_read self.old (length buf.old) }
     {

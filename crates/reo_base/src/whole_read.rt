@@ -1,7 +1,7 @@
 ghost use Rattle.std.specs.Prelude.{◌≡◌, ◌+◌, ◌≤◌, IfOk, OnOk, OnErr, IsErrOf, vec_len};
 ghost use Rattle.reo_base.specs.declared.whole_read.ReadRefusal.TheVariants.{Fault, NoMemory};
 ghost use Rattle.reo_base.specs.Faults.{Rose};
-ghost use Rattle.reo_base.specs.Streams.{IsReadWhole, LosesFirst, LosesAtMost, HasAtMost, HasMoreThan};
+ghost use Rattle.reo_base.specs.Streams.{IsReadWhole, LosesFirst, LosesAtMost, HasAtMost, HasMoreThan, RisesAtMost};
 
 use crate::{Failed, Source};
 use std::alloc::{AllocError, Global};
@@ -36,8 +36,8 @@ impl From<AllocError> for ReadRefusal {
 
 const PIECE: usize = 8 * 1024;
 
-/// Reads a source to its end, where it has at most `max` bytes. It takes at most `max + 1` bytes in
-/// at most `max + 1` reads, since each read but the last takes a byte.
+/// Reads a source to its end, where it has at most `max` bytes. It takes at most `max + 1` bytes,
+/// and each read but the last takes one at least.
 pub fn read_all<S: Source>(
     alloc: Global,
     source: &mut S,
@@ -55,6 +55,7 @@ pub fn read_all<S: Source>(
     ensures taken { IsErrOf result ReadRefusal.TooLong → LosesFirst (S.left source.old) (S.left source.new) (max + 1) }
     ensures prefix { OnErr result (LosesAtMost (S.left source.old) (S.left source.new) (max + 1)) }
 
+    ensures calls { RisesAtMost (S.reads source.old) (S.reads source.new) (max + 1) }
     ensures later { S.faults source.old ≤ S.faults source.new }
 {
     let mut buffer = [0; PIECE];
