@@ -17,7 +17,7 @@ fn integers_have_their_codes(rt: HostRuntime) {
     ] {
         let value = Value::Int(Num::new(integer).expect(&rt, "in range"));
         assert_eq!(rt; word_of(value), code, "of {integer}");
-        assert!(rt; value_of(code).is_some(), "of {code}");
+        assert_eq!(rt; value_of(code), Some(value), "of {code}");
     }
     assert_eq!(rt; Num::new(7).expect(&rt, "in range").get(), 7);
     assert_eq!(rt; Num::new(4_611_686_018_427_387_904), None);

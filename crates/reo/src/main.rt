@@ -1,6 +1,9 @@
 //! The program `reo`: it hands the standard streams and the words of the command line to the tool.
 #![tactic(auto)]
 
+ghost use Rattle.std.specs.Prelude.{◌≡◌, IfOk, map};
+ghost use Rattle.std.specs.String.{string_bytes};
+
 use reo_base::{StdSink, StdSource};
 use reo_tool::{plain_call, tell_memory};
 use std::alloc::{AllocError, Global};
@@ -36,7 +39,9 @@ fn words_of(rt: &HostRuntime) -> Result<Vec<String>, AllocError> {
 }
 
 /// The words as texts that are lent.
-fn lent(alloc: Global, words: &[String]) -> Result<Vec<&str>, AllocError> {
+fn lent(alloc: Global, words: &[String]) -> Result<Vec<&str>, AllocError>
+    ensures { IfOk result (λ texts. map (λ text. text.now) texts.items ≡ map string_bytes words.now) }
+{
     let mut texts = Vec::with_capacity(alloc, words.len())?;
     for word in words {
         texts.push(word.as_str())?;

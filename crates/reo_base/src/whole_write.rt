@@ -1,4 +1,4 @@
-ghost use Rattle.std.specs.Prelude.{◌≡◌, ◌<◌, length, take, IfErr, OnOk};
+ghost use Rattle.std.specs.Prelude.{◌<◌, length, take, IfErr, OnOk};
 ghost use Rattle.reo_base.specs.Faults.{HasCause};
 ghost use Rattle.reo_base.specs.Streams.{IsExtended};
 

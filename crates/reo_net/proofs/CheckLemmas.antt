@@ -79,7 +79,7 @@ module _ (c : RawCircuit) (circuit : IsCircuit c) (sinks sources : List Bool)
   -- a port's node is one of the circuit's
   port_fits : (p : ℕ) (port : Port) → slice_get c.ports p ≡ Some port → port.node < c.nodes
   port_fits p port found =
-      subst (λ x. x.node < c.nodes) (get_or_from_slice_get c.ports p port port found) (circuit.port_nodes p port (slice_get_within c.ports p port found))
+      subst (λ x. x.node < c.nodes) (get_or_from_slice_get c.ports p port port found) (circuit.known.port_nodes p port (slice_get_within c.ports p port found))
 
   pub IsMixed-from_pass : (node : ℕ) → IsPassBelow (λ port. port.node) (is_marked sinks sources) c.ports (length c.ports) node → IsMixed c node
   IsMixed-from_pass node at = record {

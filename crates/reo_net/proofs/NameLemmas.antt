@@ -165,10 +165,10 @@ module _ (c : RawCircuit) where
     channel_ends k channel found =
         let within = slice_get_within c.channels k channel found in
         let read = get_or_from_slice_get c.channels k channel channel found in
-        (subst (λ x. x.a < c.nodes) read (circuit.ends_a k channel within), subst (λ x. x.b < c.nodes) read (circuit.ends_b k channel within))
+        (subst (λ x. x.a < c.nodes) read (circuit.known.ends_a k channel within), subst (λ x. x.b < c.nodes) read (circuit.known.ends_b k channel within))
 
     port_node : (p : ℕ) (port : Port) → slice_get c.ports p ≡ Some port → port.node < c.nodes
-    port_node p port found = subst (λ x. x.node < c.nodes) (get_or_from_slice_get c.ports p port port found) (circuit.port_nodes p port (slice_get_within c.ports p port found))
+    port_node p port found = subst (λ x. x.node < c.nodes) (get_or_from_slice_get c.ports p port port found) (circuit.known.port_nodes p port (slice_get_within c.ports p port found))
 
     pub node_below : (node name : ℕ) → IsNameOf c node name → node < c.nodes
     unfolding port_or_end

@@ -14,14 +14,18 @@ HasTextsBelow texts (Fifo (Some (Sym text))) = text < texts
 HasTextsBelow texts (Fifo (Some (Int number))) = Unit {0}
 HasTextsBelow texts (Fifo None) = Unit {0}
 
--- a circuit as it is read: its numbers name nodes and texts that there are
-pub record IsCircuit (c : RawCircuit) : Type 0 where
-  pub few_nodes : c.nodes ≤ 2 ^ 24
-  pub few_texts : c.texts ≤ 2 ^ 24
+-- the numbers in a circuit name nodes and texts that there are
+pub record HasKnownNumbers (c : RawCircuit) : Type 0 where
   pub ends_a : All (λ channel. channel.a < c.nodes) c.channels
   pub ends_b : All (λ channel. channel.b < c.nodes) c.channels
   pub port_nodes : All (λ port. port.node < c.nodes) c.ports
   pub constants : All (λ channel. HasTextsBelow c.texts channel.kind) c.channels
+
+-- a circuit as it is read
+pub record IsCircuit (c : RawCircuit) : Type 0 where
+  pub few_nodes : c.nodes ≤ 2 ^ 24
+  pub few_texts : c.texts ≤ 2 ^ 24
+  pub known : HasKnownNumbers c
 
 abbrev pub HasManyChannels : RawCircuit → Type 0
 HasManyChannels c = 512 < length c.channels

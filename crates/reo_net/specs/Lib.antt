@@ -7,3 +7,4 @@ pub mod Checks
 pub mod Refusals
 pub mod Laws
 pub mod Parts
+pub mod Scripts

@@ -1,5 +1,5 @@
 //! The checks on a circuit, and a circuit that passed them.
-ghost use Rattle.std.specs.Prelude.{◌≡◌, ℕ, ◌+◌, ◌*◌, ◌<◌, ◌⊎◌, length, All, None, Some, IfOk, IfErr, OnOk};
+ghost use Rattle.std.specs.Prelude.{◌≡◌, ◌+◌, ◌*◌, ◌<◌, ◌⊎◌, length, All, None, Some, IfOk, IfErr, OnOk};
 ghost use Rattle.reo_value.specs.declared.op.Way.TheVariants.{Put, Get};
 ghost use Rattle.reo_net.specs.Names.{name_count};
 ghost use Rattle.reo_net.specs.Tables.{Marks, IsKeyBelow, IsKeyTwiceBelow, IsPassBelow, is_marked};

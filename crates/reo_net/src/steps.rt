@@ -1,5 +1,5 @@
 //! Whether a step is one of the product, by its definition alone: slow, and without a table.
-ghost use Rattle.std.specs.Prelude.{◌≡◌, ℕ, ◌+◌, ◌*◌, ◌<◌, ◌⊎◌, ◌↔◌, length, map, All, Some, slice_get, slice_index_or, nat_eq, IsTrue, MatchBool, MatchOption};
+ghost use Rattle.std.specs.Prelude.{◌≡◌, ℕ, ◌+◌, ◌*◌, ◌<◌, ◌↔◌, length, map, All, Some, slice_index_or, nat_eq, IsTrue, MatchBool, MatchOption};
 ghost use Rattle.std.specs.List.Sorted.{IsStrictlyIncreasing};
 ghost use Rattle.std.specs.Map.{lookup};
 ghost use Rattle.reo_net.specs.Names.{name_count, IsIncoming, IsOutgoing};

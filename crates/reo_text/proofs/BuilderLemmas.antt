@@ -20,8 +20,11 @@ use Rattle.reo_text.specs.declared.builder.Builder.{Builder}
 use Rattle.reo_text.specs.declared.builder.Place.{Place}
 use Rattle.reo_text.specs.declared.builder.Seat.{Seat}
 use Rattle.reo_text.specs.Parts.{channel_in, port_in}
-use Rattle.reo_text.specs.Document.{HasTextsBelow, IsDocument, IsOperationOf, op_port, op_way}
-use Rattle.reo_text.specs.Builder.{IsBuilder, HasNumbersBelow, HasSeat, IsSeated, AddsNode, Numbers, MayOperate, way_of, operation_at}
+use Rattle.reo_value.specs.Op.{port_of, way_of}
+use Rattle.reo_net.specs.Checks.{HasTextsBelow}
+use Rattle.reo_net.specs.Scripts.{IsOperationOf}
+use Rattle.reo_text.specs.Document.{IsDocument}
+use Rattle.reo_text.specs.Builder.{IsBuilder, HasNumbersBelow, HasSeat, IsSeated, AddsNode, Numbers, MayOperate, way_with, operation_at}
 use Rattle.reo_text.proofs.ListLemmas.{slice_get-append, slice_get-push, slice_get-push_last, slice_get-set_same, slice_get-set_other}
 
 HasNumbersBelow-more : (n m : ℕ) (lines : List Line) → n ≤ m → HasNumbersBelow n lines → HasNumbersBelow m lines
@@ -232,15 +235,15 @@ IsOperationOf-set scripts last script added was k o is = by (cases_eq k last)
           | inr end ↦ inr (refl, sym end.1)
         ]) same
 
-op_port-operation_at : (port : ℕ) (value : Option Value) → op_port (operation_at port value) ≡ port
-op_port-operation_at port None = refl
-op_port-operation_at port (Some value) = refl
+port_of-operation_at : (port : ℕ) (value : Option Value) → port_of (operation_at port value) ≡ port
+port_of-operation_at port None = refl
+port_of-operation_at port (Some value) = refl
 
-op_way-operation_at : (port : ℕ) (value : Option Value) → op_way (operation_at port value) ≡ way_of value
-op_way-operation_at port None = refl
-op_way-operation_at port (Some value) = refl
+way_of-operation_at : (port : ℕ) (value : Option Value) → way_of (operation_at port value) ≡ way_with value
+way_of-operation_at port None = refl
+way_of-operation_at port (Some value) = refl
 
-pub IsBuilder-operation : (old new : Builder) (last : ℕ) (place : Place) (value : Option Value) (script : List Op) → IsBuilder old → MayOperate old (way_of value) place
+pub IsBuilder-operation : (old new : Builder) (last : ℕ) (place : Place) (value : Option Value) (script : List Op) → IsBuilder old → MayOperate old (way_with value) place
     → last + 1 ≡ length old.people → slice_get old.scripts.items last ≡ Some script
     → new.scripts.items ≡ set old.scripts.items last (script ++ operation_at place.seat.port value ∷ [])
     → new.seats.items ≡ set old.seats.items place.node (Some (record { way = place.seat.way; port = place.seat.port; owner = Some last }))
@@ -268,8 +271,8 @@ IsBuilder-operation old new last place value script was may is_last at scripts s
           node = n;
           seat = taken;
           at = here;
-          port = sym (op_port-operation_at seat.port value) ∙ ap op_port (sym new_one.1);
-          way = may.goes ∙ sym (op_way-operation_at seat.port value) ∙ ap op_way (sym new_one.1);
+          port = sym (port_of-operation_at seat.port value) ∙ ap port_of (sym new_one.1);
+          way = may.goes ∙ sym (way_of-operation_at seat.port value) ∙ ap way_of (sym new_one.1);
           owner = ap Some (sym new_one.0);
         }
       ];
@@ -338,20 +341,22 @@ IsDocument-from_builder b texts was none = record {
     port_nodes = was.known.port_nodes;
     constants = subst (λ n. All (λ channel. HasTextsBelow n channel.kind) (filter_map channel_in b.lines.items)) (ap length (sym none)) was.known.constants;
   };
-  ported = λ k o is.
-      let s = was.seated k o is in (
-        s.node,
-        subst (λ p. slice_get (filter_map port_in b.lines.items) p ≡ Some (record { node = s.node; way = op_way o })) s.port
-            (subst (λ w. slice_get (filter_map port_in b.lines.items) s.seat.port ≡ Some (record { node = s.node; way = w })) s.way (was.ported s.node s.seat s.at)),
-      );
-  unshared = λ j k o q is_o is_q same.
-      let s = was.seated j o is_o in
-      let t = was.seated k q is_q in
-      let ports : s.seat.port ≡ t.seat.port = s.port ∙ same ∙ sym t.port in
-      let found = sym (was.ported s.node s.seat s.at) ∙ ap (slice_get (filter_map port_in b.lines.items)) ports ∙ was.ported t.node t.seat t.at in
-      let nodes : s.node ≡ t.node = ap (λ (p : Port). p.node) (same_Some _ _ found) in
-      let seats : s.seat ≡ t.seat = same_Some _ _ (same_Some _ _ (sym s.at ∙ ap (slice_get b.seats.items) nodes ∙ t.at)) in
-      same_Some _ _ (sym s.owner ∙ ap (λ (x : Seat). x.owner) seats ∙ t.owner);
+  fit = record {
+    ported = λ k o is.
+        let s = was.seated k o is in (
+          s.node,
+          subst (λ p. slice_get (filter_map port_in b.lines.items) p ≡ Some (record { node = s.node; way = way_of o })) s.port
+              (subst (λ w. slice_get (filter_map port_in b.lines.items) s.seat.port ≡ Some (record { node = s.node; way = w })) s.way (was.ported s.node s.seat s.at)),
+        );
+    unshared = λ j k o q is_o is_q same.
+        let s = was.seated j o is_o in
+        let t = was.seated k q is_q in
+        let ports : s.seat.port ≡ t.seat.port = s.port ∙ same ∙ sym t.port in
+        let found = sym (was.ported s.node s.seat s.at) ∙ ap (slice_get (filter_map port_in b.lines.items)) ports ∙ was.ported t.node t.seat t.at in
+        let nodes : s.node ≡ t.node = ap (λ (p : Port). p.node) (same_Some _ _ found) in
+        let seats : s.seat ≡ t.seat = same_Some _ _ (same_Some _ _ (sym s.at ∙ ap (slice_get b.seats.items) nodes ∙ t.at)) in
+        same_Some _ _ (sym s.owner ∙ ap (λ (x : Seat). x.owner) seats ∙ t.owner);
+  };
   scripted = was.scripted;
   few_people = was.few_people;
   few_operations = omega (arith, was.counted, was.few_operations);

@@ -24,7 +24,7 @@ use Rattle.reo_text.specs.declared.builder.Seat.{Seat}
 use Rattle.reo_text.specs.Sentence.{Sentence, PortLine, FifoLine, ComponentLine, PutLine, GetLine}
 use Rattle.reo_text.specs.Parts.{mentioned, known_and, nodes_of, number_in, circuit_line, port_nodes, port_node, component_name, people_of, operation, scripts_of}
 use Rattle.reo_text.specs.Plain.{is_component, has_component, is_same_way, first_port_goes, is_at, is_taken, is_operation, operation_count, operation_fits, fits_behind}
-use Rattle.reo_text.specs.Builder.{Numbers, HasSeat, operation_at, way_of}
+use Rattle.reo_text.specs.Builder.{Numbers, HasSeat, operation_at, way_with}
 use Rattle.reo_text.specs.Represents.{Represents, Adds, operation_line, line_way, can_operate, seat_at, seat_of, goes, is_used, is_used_before, is_before_last, has_owner_below, is_below}
 use Rattle.reo_text.proofs.PushLemmas.{has_component-other, has_component-people, scripts_of-none, scripts_of-component, scripts_of-operation, is_taken-other, is_taken-component, is_used-push, nodes_of-push, first_port_goes-other, first_port_goes-port}
 use Rattle.reo_text.proofs.SeatLemmas.{Numbers-added, Numbers-place, seat_of-numbered, seat_at-set, seat_at-within}
@@ -469,9 +469,9 @@ pub free_last : (count : ℕ) (owner : Option ℕ) → ((k : ℕ) → owner ≡ 
 free_last count None is = refl
 free_last count (Some k) is = ap not (eq-eqb (k + 1) count (is k refl))
 
-pub way_of-map : (number : Option ℤ) → way_of (option_map Int number) ≡ line_way number
-way_of-map None = refl
-way_of-map (Some z) = refl
+pub way_with-map : (number : Option ℤ) → way_with (option_map Int number) ≡ line_way number
+way_with-map None = refl
+way_with-map (Some z) = refl
 
 pub none_is_none : (o : Option ℕ) → is_some o ≡ false → is_none o ≡ true
 none_is_none None none = refl

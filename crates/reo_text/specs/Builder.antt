@@ -7,16 +7,19 @@ use Rattle.reo_value.specs.declared.op.Op.TheVariants as op
 use Rattle.reo_value.specs.declared.op.Way.{Way}
 use Rattle.reo_value.specs.declared.op.Way.TheVariants.{Put, Get}
 use Rattle.reo_value.specs.declared.value.Value.{Value}
+use Rattle.reo_value.specs.Op.{port_of, way_of}
+use Rattle.reo_net.specs.Checks.{HasTextsBelow}
+use Rattle.reo_net.specs.Scripts.{IsOperationOf}
 use Rattle.reo_text.specs.Parts.{channel_in, port_in}
-use Rattle.reo_text.specs.Document.{HasTextsBelow, IsOperationOf, op_port, op_way}
 use Rattle.reo_text.specs.declared.line.Line.{Line}
 use Rattle.reo_text.specs.declared.builder.Builder.{Builder}
 use Rattle.reo_text.specs.declared.builder.Place.{Place}
 use Rattle.reo_text.specs.declared.builder.Seat.{Seat}
 
-abbrev pub way_of : Option Value → Way
-way_of (Some value) = Put
-way_of None = Get
+-- which way an operation with this value goes
+abbrev pub way_with : Option Value → Way
+way_with (Some value) = Put
+way_with None = Get
 
 abbrev pub operation_at : ℕ → Option Value → Op
 operation_at port (Some value) = op.Put port value
@@ -38,8 +41,8 @@ pub record IsSeated (seats : List (Option Seat)) (k : ℕ) (o : Op) : Type 0 whe
   pub node : ℕ
   pub seat : Seat
   pub at : HasSeat seats node seat
-  pub port : seat.port ≡ op_port o
-  pub way : seat.way ≡ op_way o
+  pub port : seat.port ≡ port_of o
+  pub way : seat.way ≡ way_of o
   pub owner : seat.owner ≡ Some k
 
 pub record IsBuilder (b : Builder) : Type 0 where

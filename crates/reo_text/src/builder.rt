@@ -5,7 +5,7 @@ ghost use Rattle.reo_value.specs.Lexicon.{place_of};
 ghost use Rattle.reo_text.specs.Sentence.{PortLine, FifoLine, ComponentLine};
 ghost use Rattle.reo_text.specs.Said.{said};
 ghost use Rattle.reo_text.specs.Represents.{Represents, AddsExactly, Continues, operation_line, can_operate, is_before_last};
-ghost use Rattle.reo_text.specs.Builder.{IsBuilder, Numbers, MayOperate, way_of, operation_at};
+ghost use Rattle.reo_text.specs.Builder.{IsBuilder, Numbers, MayOperate, way_with, operation_at};
 
 use crate::line::Line;
 use crate::sentence::Sentence;
@@ -151,7 +151,7 @@ impl Builder {
         ensures lines { OnOk result (self.new.lines.items ≡ self.old.lines.items) }
     {
         let value = value_of(number);
-        let Some(place) = self.place(way_of(&value), node) else {
+        let Some(place) = self.place(way_with(&value), node) else {
             return Ok(false);
         };
         self.push_operation(&place, value)?;
@@ -160,7 +160,7 @@ impl Builder {
 
     fn push_operation(&mut self, place: &Place, value: Option<Value>) -> Result<(), AllocError>
         requires builder { IsBuilder self.old }
-        requires may { MayOperate self.old (way_of value) place.now }
+        requires may { MayOperate self.old (way_with value) place.now }
         ensures exact { OnOk result (Continues self.old place.now value self.new) }
         ensures builder { OnOk result (IsBuilder self.new) }
         ensures lines { OnOk result (self.new.lines.items ≡ self.old.lines.items) }
@@ -219,8 +219,8 @@ fn value_of(number: Option<Num>) -> Option<Value>
     number.map(Value::Int)
 }
 
-fn way_of(value: &Option<Value>) -> Way
-    ensures { result ≡ way_of value.now }
+fn way_with(value: &Option<Value>) -> Way
+    ensures { result ≡ way_with value.now }
 {
     match value {
         Some(_) => Way::Put,

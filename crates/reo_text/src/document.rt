@@ -1,8 +1,9 @@
 //! A document, as callers see it.
 ghost use Rattle.std.specs.Prelude.{◌≡◌, List, IfOk};
 ghost use Rattle.std.specs.List.{filter_map};
+ghost use Rattle.reo_net.specs.Checks.{IsCircuit};
 ghost use Rattle.reo_text.specs.Parts.{circuit_of, document_of, channel_in, port_in};
-ghost use Rattle.reo_text.specs.Document.{IsDocument, IsWellFormed};
+ghost use Rattle.reo_text.specs.Document.{IsDocument};
 ghost use Rattle.reo_text.specs.Sentence.{Sentence};
 ghost use Rattle.reo_text.specs.Builder.{IsBuilder};
 ghost use Rattle.reo_text.specs.Represents.{Represents};
@@ -96,7 +97,7 @@ impl Document {
     /// The circuit by itself.
     pub fn circuit(&self, alloc: Global) -> Result<RawCircuit, AllocError>
         ensures circuit { IfOk result (λ c. c ≡ circuit_of self.now) }
-        ensures well_formed { IfOk result IsWellFormed }
+        ensures well_formed { IfOk result IsCircuit }
     {
         let channels = channels_in(alloc, self.lines.as_slice())?;
         let ports = ports_in(alloc, self.lines.as_slice())?;

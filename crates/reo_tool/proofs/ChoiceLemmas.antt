@@ -10,7 +10,8 @@ use Rattle.reo_value.specs.declared.value.Value.{Value}
 use Rattle.reo_value.specs.declared.op.Op.{Op}
 use Rattle.reo_value.specs.declared.op.Op.TheVariants as op
 use Rattle.reo_trace.specs.declared.report.Called.{Called}
-use Rattle.reo_trace.specs.Lawful.{port_of, next_ops}
+use Rattle.reo_value.specs.Op.{port_of}
+use Rattle.reo_trace.specs.Lawful.{next_ops}
 use Rattle.reo_net.specs.Steps.{State}
 use Rattle.reo_tool.specs.declared.ends.End.{End}
 use Rattle.reo_tool.specs.declared.ends.End.TheVariants.{Put, Get, Source, Sink}

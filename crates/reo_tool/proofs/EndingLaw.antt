@@ -25,7 +25,8 @@ use Rattle.reo_tool.specs.declared.ends.End.{End}
 use Rattle.reo_tool.specs.Ends.{ends_at}
 use Rattle.reo_tool.specs.Offers.{AreOwners}
 use Rattle.reo_tool.specs.Owners.{owners_from}
-use Rattle.reo_tool.specs.Board.{IsBoard, ScriptsFit}
+use Rattle.reo_tool.specs.Board.{IsBoard}
+use Rattle.reo_net.specs.Scripts.{ScriptsFit}
 use Rattle.reo_tool.proofs.OwnerLemmas.{are_owners}
 use Rattle.reo_tool.specs.Schedule.{same_lengths}
 use Rattle.reo_tool.specs.UnderWay.{IsUnderWay}

@@ -12,5 +12,4 @@ pub mod PortLaw
 pub mod TurnLaw
 pub mod OwnerLemmas
 pub mod EndingLaw
-pub mod FitLaw
 pub mod CallLaw

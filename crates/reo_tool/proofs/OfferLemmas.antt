@@ -7,7 +7,8 @@ use Rattle.std.proofs.lemmas.Option.{option_and_then_some, cond_some, same_Some}
 use Rattle.std.proofs.lemmas.List.Elements.{Contains-append_left, Contains-append_right, Contains-append_cases}
 use Rattle.reo_value.specs.declared.op.Op.{Op}
 use Rattle.reo_trace.specs.declared.report.Called.{Called}
-use Rattle.reo_trace.specs.Lawful.{port_of, next_ops}
+use Rattle.reo_value.specs.Op.{port_of}
+use Rattle.reo_trace.specs.Lawful.{next_ops}
 use Rattle.reo_tool.specs.declared.offers.Offer.{Offer}
 use Rattle.reo_tool.specs.Offers.{AreOwners, offer_if, offer_behind, offer_of, offer_at}
 

@@ -6,10 +6,10 @@ use Rattle.std.proofs.lemmas.Bool.{cases_eq}
 use Rattle.std.proofs.lemmas.Option.{same_Some, slice_get_within, slice_get-get_or}
 use Rattle.reo_value.specs.declared.op.Op.{Op}
 use Rattle.reo_net.specs.declared.circuit.RawCircuit.{RawCircuit}
-use Rattle.reo_trace.specs.Lawful.{port_of}
+use Rattle.reo_value.specs.Op.{port_of, way_of}
 use Rattle.reo_tool.specs.Offers.{AreOwners}
 use Rattle.reo_tool.specs.Owners.{claimed, owners_from}
-use Rattle.reo_tool.specs.Board.{ScriptsFit}
+use Rattle.reo_net.specs.Scripts.{IsOperationOf, ScriptsFit}
 use Rattle.reo_tool.proofs.Places.{slice_get-set_same, slice_get-set_other}
 
 length-claimed : (k : ℕ) (script : List Op) (owners : List (Option ℕ)) → length (claimed k script owners) ≡ length owners
@@ -53,9 +53,12 @@ owners_there first (s ∷ scripts) owners apart zero script i op at in_script be
 owners_there first (s ∷ scripts) owners apart (suc k) script i op at in_script below =
     owners_there (first + 1) scripts (claimed first s owners) (λ a b l j x y o z at_a in_a at_l in_l e. (let same : suc a ≡ suc l = apart (suc a) b (suc l) j x y o z at_a in_a at_l in_l e in omega arith)) k script i op at in_script (omega (arith, length-claimed first s owners)) ∙ ap (λ n. Some (Some n)) (let e : first + 1 + k ≡ first + suc k = omega arith in e)
 
+operation_of : (scripts : List (List Op)) (k i : ℕ) (script : List Op) (o : Op) → slice_get scripts k ≡ Some script → slice_get script i ≡ Some o → IsOperationOf scripts k o
+operation_of scripts k i script o found at = record { script = script; found = found; place = i; at = at }
+
 pub are_owners : (c : RawCircuit) (scripts : List (List Op)) → ScriptsFit c scripts → AreOwners scripts (owners_from 0 scripts (replicate (length c.ports) None))
 unfolding AreApart
 are_owners c scripts fit k script i op at in_script =
-    let port = fit.ports k i script op at in_script in
-    let below = slice_get_within c.ports (port_of op) port.0 port.1 in
-    owners_there 0 scripts (replicate (length c.ports) None) fit.apart k script i op at in_script (omega (arith, below, length-replicate {A = Option ℕ} (length c.ports) None)) ∙ ap (λ n. Some (Some n)) (let e : 0 + k ≡ k = omega arith in e)
+    let port = fit.ported k op (operation_of scripts k i script op at in_script) in
+    let below = slice_get_within c.ports (port_of op) (record { node = port.0; way = way_of op }) port.1 in
+    owners_there 0 scripts (replicate (length c.ports) None) (λ j a l b x y o q at_j in_j at_l in_l e. fit.unshared j l o q (operation_of scripts j a x o at_j in_j) (operation_of scripts l b y q at_l in_l) e) k script i op at in_script (omega (arith, below, length-replicate {A = Option ℕ} (length c.ports) None)) ∙ ap (λ n. Some (Some n)) (let e : 0 + k ≡ k = omega arith in e)

@@ -13,7 +13,8 @@ use Rattle.reo_net.specs.declared.circuit.Step.{Step}
 use Rattle.reo_net.specs.Steps.{State, IsState, datum, Fires}
 use Rattle.reo_net.specs.Checks.{IsChecked}
 use Rattle.reo_trace.specs.declared.report.Called.{Called}
-use Rattle.reo_trace.specs.Lawful.{port_of, next_ops, HasItsValue}
+use Rattle.reo_value.specs.Op.{port_of}
+use Rattle.reo_trace.specs.Lawful.{next_ops, HasItsValue}
 use Rattle.reo_tool.specs.declared.ends.End.{End}
 use Rattle.reo_tool.specs.declared.ends.End.TheVariants.{Put, Get, Source, Sink}
 use Rattle.reo_tool.specs.declared.offers.Offer.{Offer}

@@ -14,7 +14,8 @@ use Rattle.reo_net.specs.declared.circuit.Step.{Step}
 use Rattle.reo_net.specs.Steps.{State, ProductStep, datum, Fires}
 use Rattle.reo_net.specs.Runs.{Run, initial_state}
 use Rattle.reo_trace.specs.declared.report.Called.{Called}
-use Rattle.reo_trace.specs.Lawful.{port_of, HasItsValue, FiresOneRegion, AreFirstOf, StandsIn, call_at, IsAnsweredOnce}
+use Rattle.reo_value.specs.Op.{port_of}
+use Rattle.reo_trace.specs.Lawful.{HasItsValue, FiresOneRegion, AreFirstOf, StandsIn, call_at, IsAnsweredOnce}
 use Rattle.reo_tool.specs.declared.offers.Offer.{Offer}
 use Rattle.reo_tool.specs.Progress.{answered, called}
 use Rattle.reo_tool.specs.UnderWay.{IsUnderWay}

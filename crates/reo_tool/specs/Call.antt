@@ -2,6 +2,8 @@
 use Rattle.std.specs.Prelude.{◌≡◌, ℕ, ◌+◌, ◌≤◌, ◌⊎◌, List, [], ◌∷◌, length, map, Some, codes}
 use Rattle.std.specs.declared.option.Option.{Option}
 use Rattle.std.specs.Borrow.{Bor}
+use Rattle.reo_base.specs.declared.source.Source.{Ghosts as SourceOf}
+use Rattle.reo_base.specs.declared.sink.Sink.{Ghosts as SinkOf}
 use Rattle.reo_base.specs.Faults.{Rose}
 use Rattle.reo_base.specs.Streams.{IsReadWhole, HasMoreThan, LosesFirst, IsExtended}
 use Rattle.reo_net.specs.Checks.{IsChecked}
@@ -39,6 +41,17 @@ pub record Streams : Type 0 where
   pub out_faults : ℕ
   pub err : Option (List ℕ)
   pub err_faults : ℕ
+
+-- what the three streams tell at one moment
+abbrev pub streams : {S K E : Type 0} → SourceOf S → SinkOf K → SinkOf E → S → K → E → Streams
+streams s k e source out err = record {
+  left = s.left source;
+  source_faults = s.faults source;
+  out = k.written out;
+  out_faults = k.faults out;
+  err = e.written err;
+  err_faults = e.faults err;
+}
 
 -- a document's circuit passes the checks
 abbrev pub IsAccepted : DocumentData → Type 0
@@ -147,6 +160,10 @@ pub record IsPromised (words : List (Bor (List ℕ))) (before after : Streams) (
   pub source_held : Rose before.source_faults after.source_faults → ⊥
   pub sinks_held : SinkRose before after → ⊥
   pub memory : status ≡ Memory → ⊥
+
+-- where that is so, the whole report of the document is written, and it is lawful
+abbrev pub KeepsItsPromise : List (Bor (List ℕ)) → Streams → Streams → Status → Type 0
+KeepsItsPromise words before after status = (document : DocumentData) → IsPromised words before after document status → IsReported document before after status
 
 -- bytes that are refused: they leave the form, or the checks refuse the circuit of the document that they spell
 abbrev pub AreRefused : List ℕ → Type 0

@@ -10,7 +10,9 @@ use Rattle.reo_tool.specs.declared.ends.End.{End}
 use Rattle.reo_tool.specs.declared.ends.End.TheVariants.{Put, Get, Source, Sink}
 use Rattle.reo_tool.specs.declared.offers.Offer.{Offer}
 use Rattle.reo_tool.specs.declared.choice.Choice.{Choice}
+use Rattle.reo_tool.specs.declared.choice.Moment.{Moment}
 use Rattle.reo_tool.specs.Ends.{is_incoming}
+use Rattle.reo_tool.specs.Offers.{offer_in}
 
 abbrev pub put_value : Op → Option Value
 put_value (op.Put p value) = Some value
@@ -60,3 +62,7 @@ first_given offers cells (end ∷ ends) = first_of end (given_by offers cells en
 -- the firing of the node with these ends
 abbrev pub choice_by : (ℕ → Option Offer) → State → List End → Option Choice
 choice_by offers cells ends = if all_take offers cells ends then first_given offers cells ends else None
+
+-- the same, at a moment of the engine
+abbrev pub choice_at : Moment → List End → Option Choice
+choice_at moment = choice_by (offer_in moment.offers) moment.cells.now

@@ -3,8 +3,9 @@ use Rattle.std.specs.Prelude.{◌≡◌, ℕ, ◌==◌, if◌then◌else◌, Lis
 use Rattle.std.specs.Option.{option_and_then}
 use Rattle.reo_value.specs.declared.op.Op.{Op}
 use Rattle.reo_trace.specs.declared.report.Called.{Called}
-use Rattle.reo_trace.specs.Lawful.{port_of}
+use Rattle.reo_value.specs.Op.{port_of}
 use Rattle.reo_tool.specs.declared.offers.Offer.{Offer}
+use Rattle.reo_tool.specs.declared.offers.Offers.{Offers}
 
 infixl 10 ◌>>=◌
 abbrev pub ◌>>=◌ : {A B : Type 0} → Option A → (A → Option B) → Option B
@@ -36,3 +37,7 @@ offer_at scripts owners calls port = do
   owner ← slice_get owners port
   component ← owner
   offer_of scripts calls port component
+
+-- the same, by what the engine goes by
+abbrev pub offer_in : Offers → ℕ → Option Offer
+offer_in offers = offer_at offers.scripts.now offers.owners.now offers.calls.now

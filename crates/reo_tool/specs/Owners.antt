@@ -1,7 +1,7 @@
 -- Whose each port is, by the operations of the scripts.
 use Rattle.std.specs.Prelude.{ℕ, ◌+◌, List, [], ◌∷◌, slice_set, Option, Some}
 use Rattle.reo_value.specs.declared.op.Op.{Op}
-use Rattle.reo_trace.specs.Lawful.{port_of}
+use Rattle.reo_value.specs.Op.{port_of}
 
 -- the ports of these operations are the component's
 abbrev pub claimed : ℕ → List Op → List (Option ℕ) → List (Option ℕ)

@@ -6,6 +6,8 @@ use Rattle.reo_net.specs.declared.circuit.Step.{Step}
 use Rattle.reo_net.specs.Steps.{State, IsState, Fires}
 use Rattle.reo_net.specs.Runs.{Run, initial_state}
 use Rattle.reo_trace.specs.declared.report.Called.{Called}
+use Rattle.reo_tool.specs.declared.progress.Progress.{Progress}
+use Rattle.reo_tool.specs.declared.schedule.Board.{Board}
 use Rattle.reo_trace.specs.Lawful.{FiresOneRegion, AreFirstOf, StandsIn, IsAnsweredOnce, call_at}
 
 pub record IsUnderWay (c : RawCircuit) (scripts : List (List Op)) (cells : State) (steps : List Step) (calls : List (List Called)) : Type 0 where
@@ -16,3 +18,7 @@ pub record IsUnderWay (c : RawCircuit) (scripts : List (List Op)) (cells : State
   pub in_order : (k : ℕ) (script : List Op) (own : List Called) → slice_get scripts k ≡ Some script → slice_get calls k ≡ Some own → AreFirstOf script own
   pub placed : (k i : ℕ) (call : Called) → call_at calls k i ≡ Some call → StandsIn steps call
   pub once : (number : ℕ) (step : Step) (port : ℕ) → slice_get steps number ≡ Some step → port < length c.ports → Fires step port → IsAnsweredOnce calls number port
+
+-- what a run goes by and how far it has come are such a run
+abbrev pub GoesOn : Board → Progress → Type 0
+GoesOn board progress = IsUnderWay board.net.now board.scripts.now progress.cells.items progress.steps.items progress.calls.items

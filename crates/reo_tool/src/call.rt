@@ -5,12 +5,11 @@ ghost use Rattle.std.specs.Borrow.{Bor};
 ghost use Rattle.reo_base.specs.Streams.{IsReadWhole};
 ghost use Rattle.reo_net.specs.Checks.{IsChecked};
 ghost use Rattle.reo_net.specs.Refusals.{Refuses};
-ghost use Rattle.reo_text.specs.Parts.{DocumentData, circuit_of};
+ghost use Rattle.reo_text.specs.Parts.{circuit_of};
 ghost use Rattle.reo_trace.specs.Lawful.{IsLawfulReport};
-ghost use Rattle.reo_base.specs.Faults.{Rose};
 ghost use Rattle.reo_tool.specs.Status.{status_of};
 ghost use Rattle.reo_tool.specs.FaultText.{line_text, check_text, out_of_memory_text};
-ghost use Rattle.reo_tool.specs.Call.{IsRunPlain, most_steps, HasCauseFor, most_bytes, WrittenOut, Told, ToldOrMemory, IsPromised, IsReported, IsRefusable, IsOverlong, IsOrAbove};
+ghost use Rattle.reo_tool.specs.Call.{IsRunPlain, streams, most_steps, HasCauseFor, most_bytes, WrittenOut, Told, ToldOrMemory, KeepsItsPromise, IsRefusable, IsOverlong, IsOrAbove};
 
 use crate::fault_text::{OUT_OF_MEMORY, READ_FAILED, TOO_LONG, USAGE, check_text, line_text};
 use crate::schedule::run;
@@ -143,8 +142,7 @@ fn run_document<K: Sink, E: Sink>(alloc: Global, bytes: &[u8], out: &mut K, err:
     requires { length bytes.now ≤ most_bytes }
     ensures cause { (words : List (Bor (List ℕ))) (left rest : Option (List ℕ)) (before now : ℕ) → IsRunPlain words → IsReadWhole left rest bytes.now → HasCauseFor words
         (record { left = left; source_faults = before; out = K.written out.old; out_faults = K.faults out.old; err = E.written err.old; err_faults = E.faults err.old })
-        (record { left = rest; source_faults = now; out = K.written out.new; out_faults = K.faults out.new; err = E.written err.new; err_faults = E.faults err.new })
-        result }
+        (record { left = rest; source_faults = now; out = K.written out.new; out_faults = K.faults out.new; err = E.written err.new; err_faults = E.faults err.new }) result }
 {
     let document = match read_document(alloc, bytes) {
         Ok(document) => document,
@@ -169,10 +167,7 @@ fn answer<S: Source, K: Sink, E: Sink>(
     out: &mut K,
     err: &mut E,
 ) -> Status
-    ensures cause { HasCauseFor words.now
-        (record { left = S.left source.old; source_faults = S.faults source.old; out = K.written out.old; out_faults = K.faults out.old; err = E.written err.old; err_faults = E.faults err.old })
-        (record { left = S.left source.new; source_faults = S.faults source.new; out = K.written out.new; out_faults = K.faults out.new; err = E.written err.new; err_faults = E.faults err.new })
-        result }
+    ensures cause { HasCauseFor words.now (streams S.Source K.Sink E.Sink source.old out.old err.old) (streams S.Source K.Sink E.Sink source.new out.new err.new) result }
     ensures unread { (IsRunPlain words.now → ⊥) → source.new ≡ source.old }
 {
     if !is_run_plain(words) {
@@ -197,27 +192,14 @@ pub fn plain_call<S: Source, K: Sink, E: Sink>(
     err: &mut E,
 ) -> Status
     // Each status has its cause.
-    ensures cause { HasCauseFor words.now
-        (record { left = S.left source.old; source_faults = S.faults source.old; out = K.written out.old; out_faults = K.faults out.old; err = E.written err.old; err_faults = E.faults err.old })
-        (record { left = S.left source.new; source_faults = S.faults source.new; out = K.written out.new; out_faults = K.faults out.new; err = E.written err.new; err_faults = E.faults err.new })
-        result }
+    ensures cause { HasCauseFor words.now (streams S.Source K.Sink E.Sink source.old out.old err.old) (streams S.Source K.Sink E.Sink source.new out.new err.new) result }
 
     // The report of an accepted document is lawful, and is written whole.
-    ensures lawful { (document : DocumentData) → IsPromised words.now
-        (record { left = S.left source.old; source_faults = S.faults source.old; out = K.written out.old; out_faults = K.faults out.old; err = E.written err.old; err_faults = E.faults err.old })
-        (record { left = S.left source.new; source_faults = S.faults source.new; out = K.written out.new; out_faults = K.faults out.new; err = E.written err.new; err_faults = E.faults err.new })
-        document result → IsReported document
-        (record { left = S.left source.old; source_faults = S.faults source.old; out = K.written out.old; out_faults = K.faults out.old; err = E.written err.old; err_faults = E.faults err.old })
-        (record { left = S.left source.new; source_faults = S.faults source.new; out = K.written out.new; out_faults = K.faults out.new; err = E.written err.new; err_faults = E.faults err.new })
-        result }
+    ensures lawful { KeepsItsPromise words.now (streams S.Source K.Sink E.Sink source.old out.old err.old) (streams S.Source K.Sink E.Sink source.new out.new err.new) result }
 
     // Where a cause is there, its status comes, or one that stands above it.
-    ensures refusal { IsRefusable words.now
-        (record { left = S.left source.old; source_faults = S.faults source.old; out = K.written out.old; out_faults = K.faults out.old; err = E.written err.old; err_faults = E.faults err.old })
-        (record { left = S.left source.new; source_faults = S.faults source.new; out = K.written out.new; out_faults = K.faults out.new; err = E.written err.new; err_faults = E.faults err.new }) → IsOrAbove Status.Refused result }
-    ensures overlong { IsOverlong words.now
-        (record { left = S.left source.old; source_faults = S.faults source.old; out = K.written out.old; out_faults = K.faults out.old; err = E.written err.old; err_faults = E.faults err.old })
-        (record { left = S.left source.new; source_faults = S.faults source.new; out = K.written out.new; out_faults = K.faults out.new; err = E.written err.new; err_faults = E.faults err.new }) → IsOrAbove Status.ReadFault result }
+    ensures refusal { IsRefusable words.now (streams S.Source K.Sink E.Sink source.old out.old err.old) (streams S.Source K.Sink E.Sink source.new out.new err.new) → IsOrAbove Status.Refused result }
+    ensures overlong { IsOverlong words.now (streams S.Source K.Sink E.Sink source.old out.old err.old) (streams S.Source K.Sink E.Sink source.new out.new err.new) → IsOrAbove Status.ReadFault result }
     ensures usage { (IsRunPlain words.now → ⊥) → (result ≡ Status.Usage) ⊎ (result ≡ Status.WriteFault) }
     ensures unread { (IsRunPlain words.now → ⊥) → source.new ≡ source.old }
 {

@@ -2,8 +2,8 @@
 ghost use Rattle.std.specs.Prelude.{◌≡◌, not};
 ghost use Rattle.std.specs.List.{list_all, list_any};
 ghost use Rattle.reo_tool.specs.Ends.{is_incoming};
-ghost use Rattle.reo_tool.specs.Offers.{offer_at};
-ghost use Rattle.reo_tool.specs.Choice.{given_by, takes_by, all_take, choice_by};
+ghost use Rattle.reo_tool.specs.Offers.{offer_in};
+ghost use Rattle.reo_tool.specs.Choice.{given_by, takes_by, all_take, choice_at};
 
 use crate::ends::End;
 use crate::offers::{Offer, Offers};
@@ -27,7 +27,7 @@ pub struct Moment<'a> {
 impl Moment<'_> {
     /// The datum that can come into the node at this end.
     fn given(self, end: End) -> Option<Value>
-        ensures { result ≡ given_by (offer_at self.entry.offers.scripts.now self.entry.offers.owners.now self.entry.offers.calls.now) self.entry.cells.now end }
+        ensures { result ≡ given_by (offer_in self.entry.offers) self.entry.cells.now end }
     {
         match end {
             End::Put(port) => match self.offers.at(port)?.op {
@@ -41,7 +41,7 @@ impl Moment<'_> {
 
     /// Whether a datum can go out of the node at this end, if data go out there.
     fn takes(self, end: End) -> bool
-        ensures { result ≡ takes_by (offer_at self.entry.offers.scripts.now self.entry.offers.owners.now self.entry.offers.calls.now) self.entry.cells.now end }
+        ensures { result ≡ takes_by (offer_in self.entry.offers) self.entry.cells.now end }
     {
         match end {
             End::Get(port) => match self.offers.at(port) {
@@ -58,21 +58,21 @@ impl Moment<'_> {
 
     /// Whether data can go out at each end at which they go out.
     fn each_takes(self, ends: &[End]) -> bool
-        ensures { result ≡ list_all (takes_by (offer_at self.entry.offers.scripts.now self.entry.offers.owners.now self.entry.offers.calls.now) self.entry.cells.now) ends.now }
+        ensures { result ≡ list_all (takes_by (offer_in self.entry.offers) self.entry.cells.now) ends.now }
     {
         ends.iter().all(|end| self.takes(*end))
     }
 
     /// Whether data go out somewhere, and can go out everywhere.
     fn all_take(self, ends: &[End]) -> bool
-        ensures { result ≡ all_take (offer_at self.entry.offers.scripts.now self.entry.offers.owners.now self.entry.offers.calls.now) self.entry.cells.now ends.now }
+        ensures { result ≡ all_take (offer_in self.entry.offers) self.entry.cells.now ends.now }
     {
         goes_out(ends) && self.each_takes(ends)
     }
 
     /// The firing of the node with these ends: the first end that has a datum gives it.
     pub fn choice(self, ends: &[End]) -> Option<Choice>
-        ensures { result ≡ choice_by (offer_at self.entry.offers.scripts.now self.entry.offers.owners.now self.entry.offers.calls.now) self.entry.cells.now ends.now }
+        ensures { result ≡ choice_at self.entry ends.now }
     {
         if !self.all_take(ends) {
             return None;

@@ -1,7 +1,7 @@
 //! What the components offer: each its next operation, at a port that is its own.
 ghost use Rattle.std.specs.Prelude.{◌≡◌};
-ghost use Rattle.reo_trace.specs.Lawful.{port_of};
-ghost use Rattle.reo_tool.specs.Offers.{offer_at};
+ghost use Rattle.reo_value.specs.Op.{port_of};
+ghost use Rattle.reo_tool.specs.Offers.{offer_in};
 
 use reo_trace::Called;
 use reo_value::Op;
@@ -34,7 +34,7 @@ pub struct Offers<'a> {
 impl Offers<'_> {
     /// The offer at a port.
     pub fn at(self, port: u32) -> Option<Offer>
-        ensures { result ≡ offer_at self.entry.scripts.now self.entry.owners.now self.entry.calls.now port }
+        ensures { result ≡ offer_in self.entry port }
     {
         let component = (*at(self.owners, port as usize)?)?;
         let script = at(self.scripts, component as usize)?;

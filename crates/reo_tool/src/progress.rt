@@ -1,8 +1,7 @@
 //! How far a run has come, and what one firing adds to it.
-ghost use Rattle.std.specs.Prelude.{◌≡◌, ◌<◌, ◌^◌, ◌∷◌, [], ◌++◌, length, vec_len, All, IfOk, OnOk};
+ghost use Rattle.std.specs.Prelude.{◌≡◌, ◌<◌, ◌^◌, ◌∷◌, [], ◌++◌, length, All, OnOk};
 ghost use Rattle.reo_tool.specs.Ends.{end_name};
-ghost use Rattle.reo_tool.specs.Firing.{fired_pairs, fired_port, carried, IsWithin};
-ghost use Rattle.reo_tool.specs.Offers.{offer_at};
+ghost use Rattle.reo_tool.specs.Firing.{fired_pairs, carried, IsWithin};
 ghost use Rattle.reo_tool.specs.Progress.{answered, called};
 
 use crate::choice::Choice;

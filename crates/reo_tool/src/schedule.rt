@@ -1,16 +1,15 @@
 //! The plain schedule: one thread, the nodes in turn.
-ghost use Rattle.std.specs.Prelude.{◌≡◌, ℕ, suc, ◌+◌, ◌<◌, ◌≤◌, ◌^◌, [], length, vec_len, replicate, flat_map, Some, None, IfSome, IfNone, IfOk, OnOk};
+ghost use Rattle.std.specs.Prelude.{◌≡◌, ℕ, suc, ◌+◌, ◌<◌, ◌≤◌, ◌^◌, [], length, replicate, flat_map, Some, None, IfSome, IfNone, IfOk, OnOk};
 ghost use Rattle.std.specs.Option.{option_and_then};
-ghost use Rattle.reo_net.specs.Steps.{IsState};
-ghost use Rattle.reo_net.specs.Runs.{initial_state, first_content, IsEnabled};
-ghost use Rattle.reo_net.specs.Checks.{IsChecked};
+ghost use Rattle.reo_net.specs.Runs.{first_content, IsEnabled};
 ghost use Rattle.reo_trace.specs.Lawful.{next_ops, IsEndingOf, IsLawfulReport};
-ghost use Rattle.reo_tool.specs.Ends.{ends_in, ends_at};
-ghost use Rattle.reo_tool.specs.Offers.{offer_at, AreOwners};
+ghost use Rattle.reo_tool.specs.Ends.{ends_in};
+ghost use Rattle.reo_tool.specs.Offers.{offer_in};
 ghost use Rattle.reo_tool.specs.Firing.{fired_port};
-ghost use Rattle.reo_tool.specs.Board.{IsBoard, ScriptsFit};
-ghost use Rattle.reo_tool.specs.UnderWay.{IsUnderWay};
-ghost use Rattle.reo_tool.specs.Choice.{choice_by};
+ghost use Rattle.reo_tool.specs.Board.{IsBoard};
+ghost use Rattle.reo_net.specs.Scripts.{ScriptsFit};
+ghost use Rattle.reo_tool.specs.UnderWay.{GoesOn};
+ghost use Rattle.reo_tool.specs.Choice.{choice_at};
 ghost use Rattle.reo_tool.specs.Schedule.{same_lengths};
 
 use crate::choice::{Choice, Moment};
@@ -48,8 +47,8 @@ fn first_between(
     requires { to ≤ length junctions.now }
     ensures from { IfSome result (λ found. from ≤ found.0) }
     ensures below { IfSome result (λ found. found.0 < to) }
-    ensures found { IfSome result (λ found. choice_by (offer_at moment.entry.offers.scripts.now moment.entry.offers.owners.now moment.entry.offers.calls.now) moment.entry.cells.now (ends_in junctions.now found.0) ≡ Some found.1) }
-    ensures none { IfNone result ((node : ℕ) → from ≤ node → node < to → choice_by (offer_at moment.entry.offers.scripts.now moment.entry.offers.owners.now moment.entry.offers.calls.now) moment.entry.cells.now (ends_in junctions.now node) ≡ None) }
+    ensures found { IfSome result (λ found. choice_at moment.entry (ends_in junctions.now found.0) ≡ Some found.1) }
+    ensures none { IfNone result ((node : ℕ) → from ≤ node → node < to → choice_at moment.entry (ends_in junctions.now node) ≡ None) }
 {
     for node in from..to {
         let ends = junctions[node as usize].as_slice();
@@ -70,8 +69,8 @@ fn next_firing(
     requires nodes { nodes ≡ length junctions.now }
     requires from { from ≤ nodes }
     ensures below { IfSome result (λ found. found.0 < nodes) }
-    ensures found { IfSome result (λ found. choice_by (offer_at moment.entry.offers.scripts.now moment.entry.offers.owners.now moment.entry.offers.calls.now) moment.entry.cells.now (ends_in junctions.now found.0) ≡ Some found.1) }
-    ensures none { IfNone result ((node : ℕ) → node < nodes → choice_by (offer_at moment.entry.offers.scripts.now moment.entry.offers.owners.now moment.entry.offers.calls.now) moment.entry.cells.now (ends_in junctions.now node) ≡ None) }
+    ensures found { IfSome result (λ found. choice_at moment.entry (ends_in junctions.now found.0) ≡ Some found.1) }
+    ensures none { IfNone result ((node : ℕ) → node < nodes → choice_at moment.entry (ends_in junctions.now node) ≡ None) }
 {
     match first_between(moment, junctions, from, nodes) {
         Some(found) => Some(found),
@@ -98,8 +97,8 @@ fn turn(
 ) -> Result<Option<u32>, AllocError>
     requires board { IsBoard board.net.now board.scripts.now board.junctions.now board.owners.now }
     requires from { from ≤ board.net.now.nodes }
-    requires under_way { IsUnderWay board.net.now board.scripts.now progress.old.cells.items progress.old.steps.items progress.old.calls.items }
-    ensures goes_on { OnOk result (IsUnderWay board.entry.net.now board.entry.scripts.now progress.new.cells.items progress.new.steps.items progress.new.calls.items) }
+    requires under_way { GoesOn board progress.old }
+    ensures goes_on { OnOk result (GoesOn board.entry progress.new) }
     ensures place { IfOk result (λ next. IfSome next (λ place. place ≤ board.entry.net.now.nodes)) }
     ensures one_step { IfOk result (λ next. IfSome next (λ _. length progress.new.steps.items ≡ suc (length progress.old.steps.items))) }
     ensures same_steps { IfOk result (λ next. IfNone next (progress.new.steps.items ≡ progress.old.steps.items)) }
@@ -128,7 +127,7 @@ fn turn(
 
 /// The offer that a firing answers, where it has a port.
 fn answered_offer(offers: Offers<'_>, ends: &[End], input: End) -> Option<Offer>
-    ensures { result ≡ option_and_then (offer_at offers.entry.scripts.now offers.entry.owners.now offers.entry.calls.now) (fired_port input ends.now) }
+    ensures { result ≡ option_and_then (offer_in offers.entry) (fired_port input ends.now) }
 {
     let port = fired_port(ends, input)?;
     offers.at(port)
@@ -165,9 +164,9 @@ fn run_on(
     limit: u64,
 ) -> Result<Ending, AllocError>
     requires board { IsBoard board.net.now board.scripts.now board.junctions.now board.owners.now }
-    requires under_way { IsUnderWay board.net.now board.scripts.now progress.old.cells.items progress.old.steps.items progress.old.calls.items }
+    requires under_way { GoesOn board progress.old }
     requires first { length progress.old.steps.items ≡ 0 }
-    ensures under_way { OnOk result (IsUnderWay board.entry.net.now board.entry.scripts.now progress.new.cells.items progress.new.steps.items progress.new.calls.items) }
+    ensures under_way { OnOk result (GoesOn board.entry progress.new) }
     ensures within { OnOk result (length progress.new.steps.items ≤ limit) }
     ensures ended { IfOk result (IsEndingOf board.entry.net.now board.entry.scripts.now progress.new.calls.items limit (length progress.new.steps.items) progress.new.cells.items) }
 {

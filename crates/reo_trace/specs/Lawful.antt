@@ -5,6 +5,7 @@ use Rattle.std.specs.List.Sorted.{IsStrictlyIncreasing}
 use Rattle.reo_value.specs.declared.value.Value.{Value}
 use Rattle.reo_value.specs.declared.op.Op.{Op}
 use Rattle.reo_value.specs.declared.op.Op.TheVariants.{Put, Get}
+use Rattle.reo_value.specs.Op.{port_of}
 use Rattle.reo_net.specs.declared.circuit.RawCircuit.{RawCircuit}
 use Rattle.reo_net.specs.declared.circuit.Step.{Step}
 use Rattle.reo_net.specs.Steps.{State, datum, Fires}
@@ -14,11 +15,6 @@ use Rattle.reo_trace.specs.declared.report.Called.{Called}
 use Rattle.reo_trace.specs.declared.report.Ending.{Ending}
 use Rattle.reo_trace.specs.declared.report.Ending.TheVariants.{Done, Stuck, Limit}
 use Rattle.reo_trace.specs.declared.report.Report.{Report}
-
--- the port of an operation
-abbrev pub port_of : Op → ℕ
-port_of (Put p value) = p
-port_of (Get p) = p
 
 -- an answered put has the value that it put
 abbrev pub HasItsValue : Op → Value → Type 0

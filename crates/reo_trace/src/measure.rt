@@ -1,6 +1,5 @@
 //! The first pass over a report: it makes room for each line of the text.
 ghost use Rattle.std.specs.Prelude.{◌≡◌, ◌+◌, ◌≤◌, length, IfOk, OnOk, vec_capacity};
-ghost use Rattle.reo_trace.specs.ReportText.{text_at};
 ghost use Rattle.reo_trace.specs.Passes.{all_steps, own_calls, all_calls, StepsFit, OwnFit, CallsFit, Fits};
 
 use crate::lines::{bytes_at, fill_call, fill_ending, fill_step};

@@ -1,3 +1,4 @@
 pub mod Code
 pub mod Lexicon
 pub mod Num
+pub mod Op

@@ -2,7 +2,6 @@ use Rattle.std.proofs.Common.{◌≡◌, ◌+◌, ◌∷◌, ◌++◌, [], lengt
 use Rattle.std.proofs.lemmas.List.{nil_from_length}
 use Rattle.std.proofs.lemmas.Bool.Decides.{nat_tests}
 use Rattle.reo_text.specs.Said.{said}
-use Rattle.reo_text.specs.Plain.{IsRefusedAt}
 use Rattle.reo_text.proofs.ReadLemmas.{Reads, Reads-start, Reads-more, Reads-refused, Reads-end, Reads-unended, next-says, next-none}
 use Rattle.reo_text.proofs.RepresentLemmas.{Adds-true, Adds-false}
 use Rattle.reo_text.proofs.read.read_document.Goals as goal

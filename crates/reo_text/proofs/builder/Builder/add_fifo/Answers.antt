@@ -2,7 +2,7 @@ use Rattle.std.proofs.Common.{◌≡◌, not, true, false, ◌<◌, [], ◌∷�
 use Rattle.std.specs.Result.{is_ok}
 use Rattle.reo_value.proofs.LexiconLemmas.{place_of-within}
 use Rattle.reo_net.specs.declared.circuit.Kind.TheVariants.{Fifo}
-use Rattle.reo_text.specs.Document.{HasTextsBelow}
+use Rattle.reo_net.specs.Checks.{HasTextsBelow}
 use Rattle.reo_text.specs.Builder.{IsBuilder}
 use Rattle.reo_text.specs.Plain.{has_component}
 use Rattle.reo_text.specs.declared.line.Line.TheVariants as line

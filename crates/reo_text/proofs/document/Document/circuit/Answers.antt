@@ -4,7 +4,7 @@ use Rattle.reo_net.specs.declared.circuit.Channel.{Channel}
 use Rattle.reo_net.specs.declared.circuit.Port.{Port}
 use Rattle.reo_net.specs.declared.circuit.RawCircuit.{RawCircuit}
 use Rattle.reo_text.specs.Parts.{circuit_of, channel_in, port_in}
-use Rattle.reo_text.specs.Document.{HasKnownNumbers}
+use Rattle.reo_net.specs.Checks.{HasKnownNumbers}
 use Rattle.reo_text.proofs.document.Document.circuit.Goals as goal
 
 same_circuit : (n m texts more : ℕ) (cs ds : List Channel) (ps qs : List Port) → n ≡ m → texts ≡ more → cs ≡ ds → ps ≡ qs
