@@ -4,7 +4,7 @@ use reo_net::{Step, channel_allows, datum_at, is_step, node_allows};
 use reo_text::read_document;
 use reo_tool::checked;
 use reo_trace::{Ending, Report, write_report};
-use reo_value::{Lexicon, Num, Op, Value, value_of, word_of};
+use reo_value::{LexRefusal, Lexicon, Num, Op, Value, value_of, word_of};
 use sqlite_items::Items;
 use std::io::Cursor;
 
@@ -17,7 +17,7 @@ fn integers_have_their_codes(rt: HostRuntime) {
     ] {
         let value = Value::Int(Num::new(integer).expect(&rt, "in range"));
         assert_eq!(rt; word_of(value), code, "of {integer}");
-        assert_eq!(rt; value_of(code), Some(value), "of {code}");
+        assert_eq!(rt; value_of(code), Num::new(integer).map(Value::Int));
     }
     assert_eq!(rt; Num::new(7).expect(&rt, "in range").get(), 7);
     assert_eq!(rt; Num::new(4_611_686_018_427_387_904), None);
@@ -36,6 +36,11 @@ fn a_lexicon_numbers_its_texts(rt: HostRuntime) {
     assert_eq!(rt; lexicon.text(1), Some("stop"));
     assert_eq!(rt; lexicon.find("stop"), Some(1));
     assert_eq!(rt; lexicon.find("halt"), None);
+    let long = "0123456789abcdef"
+        .repeat(alloc, 16)
+        .expect(&rt, "ample memory");
+    assert_eq!(rt; lexicon.add(alloc, &long), Err(LexRefusal::TooLong));
+    assert_eq!(rt; lexicon.len(), 2);
 }
 
 #[test]

@@ -1,0 +1,7 @@
+use Rattle.std.proofs.Common.{◌∙◌}
+use Rattle.reo_guard.proofs.FrontLemmas.{text_begins}
+use Rattle.reo_guard.proofs.guard.starts_with.Goals as goal
+
+pub returns-in-Sym : goal.returns-in-Sym
+returns-in-Sym c =
+    text_begins c.args.texts.now c.args.datum.now c.in-Sym.text _ _ _ c.starts_with.result c.in-Sym.is (c.as_bytes-bytes.ensures.value ∙ c.text_of.ensures.bytes) (c.as_bytes.ensures.value ∙ c.text_of-in-Sym.ensures.bytes) c.starts_with.ensures.value
