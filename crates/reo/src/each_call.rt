@@ -1,5 +1,5 @@
-//! Each public call below the top one, once on its happy path, and the values that are told from outside.
-use reo_base::{MemorySink, MemorySource, StdSink, StdSource, read_all, write_whole};
+//! Public calls below the top one, with values worked by hand.
+use reo_base::{MemorySink, StdSink, StdSource, read_all, write_whole};
 use reo_net::{Step, channel_allows, datum_at, is_step, node_allows};
 use reo_text::read_document;
 use reo_tool::checked;

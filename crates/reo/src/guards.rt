@@ -1,4 +1,4 @@
-//! Which data meet a condition, and what a function gives at them.
+//! Which data meet a guard, and what a function yields at them.
 use reo_guard::{Cmp, Fun, Guard, apply, holds};
 use reo_value::{Lexicon, Num, Value};
 use sqlite_items::{Boxed, Items};
@@ -7,6 +7,9 @@ use std::alloc::Global;
 const GO: Value = Value::Sym(0);
 
 const STOP: Value = Value::Sym(1);
+
+/// A text number that no list of these tests has.
+const ABSENT: Value = Value::Sym(9);
 
 /// The texts `go` and `stop`.
 fn texts(alloc: Global) -> Option<Lexicon> {
@@ -17,7 +20,7 @@ fn texts(alloc: Global) -> Option<Lexicon> {
 }
 
 #[test]
-fn conditions_hold_of_some_data(rt: HostRuntime) {
+fn guards_hold_of_some_data(rt: HostRuntime) {
     let alloc = rt.alloc();
     let texts = texts(alloc).expect(&rt, "ample memory");
     let five = Num::new(5).expect(&rt, "in range");
@@ -51,7 +54,24 @@ fn conditions_hold_of_some_data(rt: HostRuntime) {
 }
 
 #[test]
-fn functions_give_what_is_in_range(rt: HostRuntime) {
+fn guards_are_joined_and_look_at_texts_that_are_there(rt: HostRuntime) {
+    let alloc = rt.alloc();
+    let texts = texts(alloc).expect(&rt, "ample memory");
+    let short = Boxed::new(alloc, Guard::LenAtMost(2)).expect(&rt, "ample memory");
+    let text = Boxed::new(alloc, Guard::IsText).expect(&rt, "ample memory");
+    let both = Guard::And(text, short);
+    assert!(rt; holds(&both, GO, &texts) && !holds(&both, STOP, &texts));
+    let stop = Boxed::new(alloc, Guard::Compare(Cmp::Gt, GO)).expect(&rt, "ample memory");
+    let inner = Boxed::new(alloc, both).expect(&rt, "ample memory");
+    let either = Guard::Or(inner, stop);
+    assert!(rt; holds(&either, GO, &texts) && holds(&either, STOP, &texts));
+    assert!(rt; holds(&Guard::Compare(Cmp::Le, GO), ABSENT, &texts));
+    assert!(rt; !holds(&Guard::Compare(Cmp::Eq, GO), ABSENT, &texts));
+    assert!(rt; holds(&Guard::LenAtMost(0), ABSENT, &texts));
+}
+
+#[test]
+fn functions_yield_what_is_in_range(rt: HostRuntime) {
     let alloc = rt.alloc();
     let texts = texts(alloc).expect(&rt, "ample memory");
     let least = Num::new(-(1 << 62)).expect(&rt, "in range");

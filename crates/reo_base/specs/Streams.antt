@@ -1,4 +1,4 @@
--- What reads and writes do to the bytes that a source has left and a sink holds, where these are told.
+-- What reads and writes do to the bytes that a source has left and a sink holds, and to the count of reads, where these are told.
 use Rattle.std.specs.Prelude.{◌≡◌, ℕ, ◌<◌, ◌≤◌, List, [], ◌+◌, ◌++◌, length, Some, IfOk, Result}
 use Rattle.std.specs.declared.option.Option.{Option}
 use Rattle.std.specs.Io.KnownBytes.{Consumes}

@@ -22,7 +22,6 @@ pub struct MemorySource {
 
 impl Model for MemorySource {
     ghost use Rattle.std.specs.Prelude.{◌≤◌, drop, vec_len};
-    ghost use Rattle.reo_base.specs.Streams.{CountsOne};
     ghost use Rattle.reo_base.specs.SourceState.{SourceState};
 
     ghost Value = { SourceState };
@@ -39,7 +38,7 @@ impl Model for MemorySource {
 }
 
 impl MemorySource {
-    /// A read gives at most `piece` bytes. The reads whose number, from 1, stands in `fail_at` fail.
+    /// No read gives more than `piece` bytes. Reads are counted from 1; one whose number `fail_at` has fails.
     pub fn new(bytes: Vec<u8>, piece: usize, fail_at: Vec<u64>) -> MemorySource
         requires { 1 ≤ piece }
         ensures left { result.left ≡ bytes.items }

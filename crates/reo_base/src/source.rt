@@ -20,7 +20,7 @@ pub trait Source {
     ghost reads: { Self → Option ℕ } = { λ _. None };
 
     /// Reads some of the bytes that are left into the front of `buf`, and returns how many.
-    /// None for a nonempty `buf` means that the source has ended.
+    /// 0 for a nonempty `buf` means that the source has ended.
     fn read(&mut self, buf: &mut [u8]) -> Result<usize, Failed>
         ensures bound { ReadsAtMost result buf.new }
         ensures bytes { ReadConsumes (left self.old) (left self.new) result buf.new }

@@ -33,7 +33,7 @@ impl<W: Write> Sink for StdSink<W> {
 
     ghost faults = { λ s. s.faults };
 
-    /// A write that takes nothing of a nonempty `buf` counts as a fault.
+    /// Where the writer takes nothing of a nonempty `buf`, that is a fault too.
     fn write(&mut self, buf: &[u8]) -> Result<usize, Failed> {
         if buf.is_empty() {
             return Ok(0);

@@ -51,8 +51,9 @@ pub fn read_all<S: Source>(
     ensures fault { IsErrOf result ReadRefusal.Fault → Rose (S.faults source.old) (S.faults source.new) }
     ensures too_long { IsErrOf result ReadRefusal.TooLong → HasMoreThan (S.left source.old) max }
 
-    // What is gone after a refusal.
+    // What is gone: byte `max + 1` just where the input is too long.
     ensures taken { IsErrOf result ReadRefusal.TooLong → LosesFirst (S.left source.old) (S.left source.new) (max + 1) }
+    ensures untaken { (IsErrOf result ReadRefusal.TooLong → ⊥) → LosesAtMost (S.left source.old) (S.left source.new) max }
     ensures prefix { OnErr result (LosesAtMost (S.left source.old) (S.left source.new) (max + 1)) }
 
     ensures calls { RisesAtMost (S.reads source.old) (S.reads source.new) (max + 1) }

@@ -5,7 +5,7 @@ use Rattle.std.proofs.Math.Seq.{take-append_seam}
 use Rattle.std.proofs.lemmas.Slice.Eq.{bytes_eq-Decides}
 use Rattle.reo_value.specs.declared.value.Value.{Value}
 use Rattle.reo_value.specs.declared.value.Value.TheVariants.{Sym}
-use Rattle.reo_guard.specs.Texts.{bytes_of}
+use Rattle.reo_value.specs.Lexicon.{text_at}
 use Rattle.reo_guard.specs.Holds.{StartsWith}
 
 -- the test of bytes says whether they begin so
@@ -16,7 +16,7 @@ begins bytes front answer is =
       λ split. is ∙ same.1 (sym (ap (take (length front)) split.1 ∙ take-append_seam front split.0)),
     )
 
-pub text_begins : (texts : List (List ℕ)) (datum : Value) (text : ℕ) (bytes front tested : List ℕ) (answer : Bool) → datum ≡ Sym text → bytes ≡ bytes_of texts text → tested ≡ front
+pub text_begins : (texts : List (List ℕ)) (datum : Value) (text : ℕ) (bytes front tested : List ℕ) (answer : Bool) → datum ≡ Sym text → bytes ≡ text_at texts text → tested ≡ front
     → answer ≡ starts_with nat_eq bytes tested → IsTrue answer ↔ StartsWith texts front datum
 text_begins texts datum text bytes front tested answer is same asked by =
     subst (λ d. IsTrue answer ↔ StartsWith texts front d) (sym is)

@@ -1,3 +1,3 @@
 pub mod FrontLemmas
-pub mod GivesLemmas
+pub mod YieldsLemmas
 pub mod HoldsLemmas

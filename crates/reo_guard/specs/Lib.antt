@@ -1,3 +1,3 @@
-pub mod Texts
 pub mod Holds
-pub mod Gives
+pub mod Yields
+pub mod Laws

@@ -4,9 +4,8 @@ ghost use Rattle.std.specs.Option.{SomeIff};
 ghost use Rattle.std.specs.Int.{w64};
 ghost use Rattle.reo_value.specs.declared.value.Value.{Value as AnyValue};
 ghost use Rattle.reo_value.specs.declared.value.Value.TheVariants.{Int as AnyInt};
-ghost use Rattle.reo_guard.specs.Gives.{Gives, IsInRange, GivesFirst};
+ghost use Rattle.reo_guard.specs.Yields.{Yields, IsIntegerInRange, YieldsFirst};
 
-use crate::text::text_of;
 use reo_value::{Lexicon, Num, Value};
 use sqlite_items::Items;
 
@@ -23,17 +22,17 @@ pub enum Fun {
     Map(Items<(Value, Value)>),
 }
 
-/// What a function gives at a datum, where it gives something. Of a text whose number the list does not have, it goes by
-/// a text of no bytes.
+/// What a function yields at a datum, where it yields something. A text number that the list does not have counts as a
+/// text of no bytes.
 pub fn apply(fun: &Fun, datum: Value, texts: &Lexicon) -> Option<Value>
-    ensures exact { (value : AnyValue) → (result ≡ Some value) ↔ Gives texts.now fun.now datum value }
+    ensures exact { (value : AnyValue) → (result ≡ Some value) ↔ Yields texts.now fun.now datum value }
 {
     match (fun, datum) {
         (Fun::Add(more), Value::Int(number)) => in_range(number.get().checked_add(more.get())),
         (Fun::Sub(less), Value::Int(number)) => in_range(number.get().checked_sub(less.get())),
         (Fun::Mul(factor), Value::Int(number)) => in_range(number.get().checked_mul(factor.get())),
         (Fun::Neg, Value::Int(number)) => in_range(number.get().checked_neg()),
-        (Fun::Len, Value::Sym(text)) => length_of(text_of(texts, text)),
+        (Fun::Len, Value::Sym(text)) => length_of(texts.text_or_empty(text)),
         (Fun::Map(pairs), datum) => first_of(pairs.as_slice(), datum),
         _ => None,
     }
@@ -41,7 +40,7 @@ pub fn apply(fun: &Fun, datum: Value, texts: &Lexicon) -> Option<Value>
 
 /// The integer that a calculation in 64 bits gave, where it is in range.
 fn in_range(calculated: Option<i64>) -> Option<Value>
-    ensures exact { (z : ℤ) → SomeIff calculated (FitsSigned w64 z) z → (value : AnyValue) → (result ≡ Some value) ↔ IsInRange z value }
+    ensures exact { (z : ℤ) → SomeIff calculated (FitsSigned w64 z) z → (value : AnyValue) → (result ≡ Some value) ↔ IsIntegerInRange z value }
 {
     Num::new(calculated?).map(Value::Int)
 }
@@ -56,7 +55,7 @@ fn length_of(text: &str) -> Option<Value>
 
 /// The second of the first pair whose first is the datum.
 fn first_of(pairs: &[(Value, Value)], datum: Value) -> Option<Value>
-    ensures exact { (value : AnyValue) → (result ≡ Some value) ↔ GivesFirst pairs.now datum value }
+    ensures exact { (value : AnyValue) → (result ≡ Some value) ↔ YieldsFirst pairs.now datum value }
 {
     for (argument, value) in pairs {
         if *argument == datum {

@@ -1,9 +1,8 @@
-//! Conditions that a datum meets or fails.
+//! Guards, which a datum meets or fails.
 ghost use Rattle.std.specs.Prelude.{◌≡◌, ◌↔◌, IsTrue};
-ghost use Rattle.reo_guard.specs.Texts.{bytes_of};
-ghost use Rattle.reo_guard.specs.Holds.{Holds, Compares, order_of, HasRemainder, IsInteger, IsSymbol, IsShort, StartsWith};
+ghost use Rattle.reo_value.specs.Lexicon.{text_at};
+ghost use Rattle.reo_guard.specs.Holds.{Holds, Compares, order_of, HasRemainder, IsInteger, IsText, IsShort, StartsWith};
 
-use crate::text::text_of;
 use reo_value::{Lexicon, Value};
 use sqlite_items::Boxed;
 use std::cmp::Ordering;
@@ -19,12 +18,12 @@ pub enum Cmp {
     Ge,
 }
 
-/// A condition on a datum.
+/// What is asked of a datum.
 #[derive(Drop)]
 pub enum Guard {
     /// The datum compares so with this constant.
     Compare(Cmp, Value),
-    /// The datum is an integer, and its remainder by the first number is the second.
+    /// The datum is an integer, and its remainder by the first number, from 0 on, is the second; by 0 there is none.
     Mod(u32, u32),
     IsInt,
     IsText,
@@ -37,7 +36,7 @@ pub enum Guard {
     Not(Boxed<Guard>),
 }
 
-/// Whether a datum meets a condition. Of a text whose number the list does not have, it goes by a text of no bytes.
+/// Whether a datum meets a guard. A text number that the list does not have counts as a text of no bytes.
 pub fn holds(guard: &Guard, datum: Value, texts: &Lexicon) -> bool
     ensures { IsTrue result ↔ Holds texts.now guard.now datum }
 {
@@ -86,7 +85,7 @@ fn order(datum: &Value, constant: &Value, texts: &Lexicon) -> Option<Ordering>
         },
         Value::Sym(left) => match constant {
             Value::Int(_) => None,
-            Value::Sym(right) => Some(text_of(texts, *left).cmp(text_of(texts, *right))),
+            Value::Sym(right) => Some(texts.text_or_empty(*left).cmp(texts.text_or_empty(*right))),
         },
     }
 }
@@ -109,7 +108,7 @@ fn is_integer(datum: &Value) -> bool
 }
 
 fn is_text(datum: &Value) -> bool
-    ensures { IsTrue result ↔ IsSymbol datum.now }
+    ensures { IsTrue result ↔ IsText datum.now }
 {
     matches!(datum, Value::Sym(_))
 }
@@ -119,18 +118,18 @@ fn is_short(datum: &Value, most: u32, texts: &Lexicon) -> bool
 {
     match datum {
         Value::Int(_) => false,
-        Value::Sym(text) => text_of(texts, *text).len() <= most as usize,
+        Value::Sym(text) => texts.text_or_empty(*text).len() <= most as usize,
     }
 }
 
 fn starts_with(datum: &Value, front: u32, texts: &Lexicon) -> bool
-    ensures { IsTrue result ↔ StartsWith texts.now (bytes_of texts.now front) datum.now }
+    ensures { IsTrue result ↔ StartsWith texts.now (text_at texts.now front) datum.now }
 {
     match datum {
         Value::Int(_) => false,
         Value::Sym(text) => {
-            let bytes = text_of(texts, *text).as_bytes();
-            bytes.starts_with(text_of(texts, front).as_bytes())
+            let bytes = texts.text_or_empty(*text).as_bytes();
+            bytes.starts_with(texts.text_or_empty(front).as_bytes())
         }
     }
 }

@@ -5,7 +5,7 @@ use Rattle.reo_net.specs.declared.net.CheckRefusal.{CheckRefusal}
 use Rattle.reo_net.specs.declared.net.CheckRefusal.TheVariants.{TooManyChannels, TooManyPorts, PortTwice, MixedPort, NoMemory}
 use Rattle.reo_net.specs.Checks.{HasManyChannels, HasManyPorts, HasTwoPorts, IsMixed, IsLeast}
 
--- The refusal is that of the first test that the circuit fails. Want of memory may come in place of any answer.
+-- The refusal is that of the first test that the circuit fails. `NoMemory` says nothing of the circuit.
 abbrev pub Refuses : RawCircuit → CheckRefusal → Type 0
 Refuses c (TooManyChannels count) = HasManyChannels c × (count ≡ length c.channels)
 Refuses c (TooManyPorts count) = ¬ HasManyChannels c × HasManyPorts c × (count ≡ length c.ports)

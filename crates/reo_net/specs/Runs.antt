@@ -19,7 +19,7 @@ first_content (Fifo first) = first ∷ []
 abbrev pub initial_state : RawCircuit → State
 initial_state c = flat_map (λ channel. first_content channel.kind) c.channels
 
--- each step is one of the product, from the state that the one before left; the last leaves the final state
+-- the steps lead from the one state to the other, each of them a step of the product
 abbrev pub Run : RawCircuit → State → List Step → State → Type 0
 Run c from [] final = final ≡ from
 Run c from (step ∷ steps) final = (next : State) × ProductStep c from step next × Run c next steps final
@@ -34,7 +34,7 @@ abbrev pub UsesOffers : RawCircuit → List Op → Step → Type 0
 UsesOffers c offers step =
     (p : ℕ) (port : Port) (value : Value) → slice_get c.ports p ≡ Some port → datum step p ≡ Some value → Contains offers (op_at port.way p value)
 
--- some step of the product from the state uses only offered ports, and at put ports the offered data
+-- a step of the product is possible here, by ports that all have offers, with the data that are offered at put ports
 pub record IsEnabled (c : RawCircuit) (state : State) (offers : List Op) : Type 0 where
   pub step : Step
   pub new : State

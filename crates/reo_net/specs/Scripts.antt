@@ -1,4 +1,4 @@
--- What makes the components' scripts ones for a circuit.
+-- When scripts fit a circuit.
 use Rattle.std.specs.Prelude.{◌≡◌, ℕ, List, slice_get, Some}
 use Rattle.reo_value.specs.declared.op.Op.{Op}
 use Rattle.reo_value.specs.Op.{port_of, way_of}
@@ -11,6 +11,7 @@ pub record IsOperationOf (scripts : List (List Op)) (k : ℕ) (o : Op) : Type 0 
   pub place : ℕ
   pub at : slice_get script place ≡ Some o
 
+-- the scripts fit the circuit
 pub record ScriptsFit (c : RawCircuit) (scripts : List (List Op)) : Type 0 where
   -- each operation is at a port of the circuit, of its way
   pub ported : (k : ℕ) (o : Op) → IsOperationOf scripts k o → (node : ℕ) × (slice_get c.ports (port_of o) ≡ Some (record { node = node; way = way_of o }))

@@ -44,7 +44,7 @@ abbrev pub content : RawCircuit → ℕ → Kind → State → Option Value
 content c k (Fifo first) state = slice_index_or state (cell_of c k) None
 
 -- From what the channel holds, with what the step has at its ends a and b, to what it holds then.
--- No pair of a state and a step but these is a transition: a FIFO1 never fires both ends.
+-- All other cases are empty: so both ends never fire at once.
 abbrev pub ChannelStep : Kind → Option Value → Option Value → Option Value → Option Value → Type 0
 -- an empty one takes the datum at its end a
 ChannelStep (Fifo first) None (Some d) None new = new ≡ Some d
@@ -86,8 +86,8 @@ ChannelMoves c k kind old step new =
 abbrev pub NodeStays : RawCircuit → ℕ → Step → Type 0
 NodeStays c node step = (name : ℕ) → IsNameOf c node name → datum step name ≡ None
 
--- A step of the product: each channel and each node either has none of its names in the step and stays, or makes
--- the step's restriction to its names.
+-- A step of the product: what the step has at the names of an automaton is one of that automaton's own moves, and an
+-- automaton of which it has no name keeps its state.
 pub record ProductStep (c : RawCircuit) (old : State) (step : Step) (new : State) : Type 0 where
   pub is_step : IsStep c step
   pub was_state : IsState c old

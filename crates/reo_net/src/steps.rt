@@ -240,7 +240,7 @@ fn is_node_step(net: &Net, node: u32, step: &Step) -> bool
     is_alone(net, node, step, input) && all_get(net, node, step, &Some(value))
 }
 
-/// Whether no name of the node is in the step, or one that comes in and all that go out, with one datum.
+/// Whether no name of the node is in the step, or one that comes in and all that go out, where some go out, with one datum.
 pub fn node_allows(net: &Net, node: u32, step: &Step) -> bool
     ensures { IsTrue result ↔ NodeAllows net.now node step.now }
 {

@@ -35,7 +35,7 @@ abbrev pub known_and : List (List ℕ) → List (List ℕ) → List (List ℕ)
 known_and known [] = known
 known_and known (text ∷ texts) = known_and (added known text) texts
 
--- nodes are numbered by their first mention
+-- the names of the nodes, each where it first comes up
 abbrev pub nodes_of : List Sentence → List (List ℕ)
 nodes_of sentences = known_and [] (flat_map mentioned sentences)
 

@@ -97,7 +97,7 @@ impl Document {
     /// The circuit by itself.
     pub fn circuit(&self, alloc: Global) -> Result<RawCircuit, AllocError>
         ensures circuit { IfOk result (λ c. c ≡ circuit_of self.now) }
-        ensures well_formed { IfOk result IsCircuit }
+        ensures is_circuit { IfOk result IsCircuit }
     {
         let channels = channels_in(alloc, self.lines.as_slice())?;
         let ports = ports_in(alloc, self.lines.as_slice())?;

@@ -149,7 +149,7 @@ abbrev pub WrittenOut : RawCircuit → DocumentData → Report → Option (List 
 WrittenOut c document report old new before now err_old err_new err_before err_now result =
     ((result ≡ status_of report.ending) × IsExtended old new (report_text c document.nodes document.texts document.people report)) ⊎ (((result ≡ WriteFault) × (Rose before now ⊎ Rose err_before err_now)) ⊎ ((result ≡ Memory) × (new ≡ old) × IsExtended err_old err_new out_of_memory_text))
 
--- the words and the input do not rule out that the whole report is written
+-- the words ask for a run, the input spells an accepted document, no stream fails, and memory suffices
 pub record IsPromised (words : List (Bor (List ℕ))) (before after : Streams) (document : DocumentData) (status : Status) : Type 0 where
   pub asked : IsRunPlain words
   pub input : List ℕ
@@ -169,7 +169,7 @@ KeepsItsPromise words before after status = (document : DocumentData) → IsProm
 abbrev pub AreRefused : List ℕ → Type 0
 AreRefused input = ((line : ℕ) × IsRefusedAt input line) ⊎ ((document : DocumentData) × Spells input document × (IsAccepted document → ⊥))
 
--- the input was read, and is refused
+-- the input is refused, and no read fails
 pub record IsRefusable (words : List (Bor (List ℕ))) (before after : Streams) : Type 0 where
   pub asked : IsRunPlain words
   pub input : List ℕ

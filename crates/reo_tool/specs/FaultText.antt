@@ -1,6 +1,7 @@
 -- The lines that are written where there is no report.
-use Rattle.std.specs.Prelude.{ℕ, List, [], ◌++◌, slice_index_or, codes, decimal}
+use Rattle.std.specs.Prelude.{ℕ, List, ◌++◌, codes, decimal}
 use Rattle.reo_net.specs.declared.net.CheckRefusal.{CheckRefusal}
+use Rattle.reo_value.specs.Lexicon.{text_at}
 use Rattle.reo_net.specs.declared.net.CheckRefusal.TheVariants.{TooManyChannels, TooManyPorts, PortTwice, MixedPort, NoMemory}
 
 abbrev pub usage_text : List ℕ
@@ -22,6 +23,6 @@ line_text line = codes "reo: line " ++ decimal line ++ codes ": not built\n"
 abbrev pub check_text : List (List ℕ) → CheckRefusal → List ℕ
 check_text nodes (TooManyChannels count) = codes "reo: " ++ decimal count ++ codes " channels, 512 allowed\n"
 check_text nodes (TooManyPorts count) = codes "reo: " ++ decimal count ++ codes " ports, 128 allowed\n"
-check_text nodes (PortTwice node) = codes "reo: node " ++ slice_index_or nodes node [] ++ codes ": two ports\n"
-check_text nodes (MixedPort node) = codes "reo: node " ++ slice_index_or nodes node [] ++ codes ": mixed node as port\n"
+check_text nodes (PortTwice node) = codes "reo: node " ++ text_at nodes node ++ codes ": two ports\n"
+check_text nodes (MixedPort node) = codes "reo: node " ++ text_at nodes node ++ codes ": mixed node as port\n"
 check_text nodes NoMemory = out_of_memory_text

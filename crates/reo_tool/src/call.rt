@@ -182,8 +182,9 @@ fn answer<S: Source, K: Sink, E: Sink>(
 }
 
 /// Does all that the program does with `run --plain`, on one thread: reads the document from the source, runs it and
-/// writes its report to `out`. What is refused, and every fault, is told in one line to `err`. It needs no threads,
-/// never waits and always returns.
+/// writes its report to `out`. A refusal, a failed or overlong read, other words and want of memory are told in one line
+/// to `err`; of a failed write only the status tells. It needs no threads, never waits, and returns if the streams' own
+/// calls do.
 pub fn plain_call<S: Source, K: Sink, E: Sink>(
     alloc: Global,
     words: &[&str],

@@ -1,5 +1,5 @@
 //! The lines that are written where there is no report.
-ghost use Rattle.std.specs.Prelude.{◌≡◌, [], slice_index_or, IfOk};
+ghost use Rattle.std.specs.Prelude.{◌≡◌, IfOk};
 ghost use Rattle.std.specs.String.{string_bytes};
 ghost use Rattle.reo_tool.specs.FaultText.{line_text, check_text};
 
@@ -38,23 +38,13 @@ pub fn check_text(
         ),
         CheckRefusal::TooManyPorts(count) => format!(in alloc; "reo: {count} ports, 128 allowed\n"),
         CheckRefusal::PortTwice(node) => {
-            let name = node_name(nodes, node);
+            let name = nodes.text_or_empty(node);
             format!(in alloc; "reo: node {name}: two ports\n")
         }
         CheckRefusal::MixedPort(node) => {
-            let name = node_name(nodes, node);
+            let name = nodes.text_or_empty(node);
             format!(in alloc; "reo: node {name}: mixed node as port\n")
         }
         CheckRefusal::NoMemory => String::from_str(alloc, "reo: out of memory\n"),
-    }
-}
-
-/// The name of a node.
-fn node_name(nodes: &Lexicon, node: u32) -> &str
-    ensures { result.now ≡ slice_index_or nodes.now node [] }
-{
-    match nodes.text(node) {
-        Some(name) => name,
-        None => "",
     }
 }

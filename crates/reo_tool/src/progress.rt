@@ -6,8 +6,8 @@ ghost use Rattle.reo_tool.specs.Progress.{answered, called};
 
 use crate::choice::Choice;
 use crate::ends::End;
-use crate::fire::{carry, fired_port, step_of};
-use crate::offers::{Offer, Offers};
+use crate::fire::{carry, step_of};
+use crate::offers::Offer;
 use reo_net::Step;
 use reo_trace::Called;
 use reo_value::Value;

@@ -20,14 +20,14 @@ pub enum Status {
     Usage,
     /// The input could not be read, or was too long.
     ReadFault,
-    /// The output could not be written.
+    /// A stream could not be written.
     WriteFault,
     /// There was not enough memory.
     Memory,
 }
 
 impl Status {
-    /// The exit status of the process, from 0 to 7.
+    /// The exit status of the process.
     pub fn code(self) -> u8
         ensures code { result ≡ code_of self }
         ensures small { result < 8 }

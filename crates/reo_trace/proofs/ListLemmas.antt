@@ -6,7 +6,8 @@ use Rattle.reo_net.specs.declared.circuit.RawCircuit.{RawCircuit}
 use Rattle.reo_net.specs.declared.circuit.Step.{Step}
 use Rattle.reo_trace.specs.declared.report.Called.{Called}
 use Rattle.reo_trace.specs.declared.report.Report.{Report}
-use Rattle.reo_trace.specs.ReportText.{text_at, step_line, step_lines, call_line, call_lines, end_line, report_text}
+use Rattle.reo_value.specs.Lexicon.{text_at}
+use Rattle.reo_trace.specs.ReportText.{step_line, step_lines, call_line, call_lines, end_line, report_text}
 use Rattle.reo_trace.specs.Passes.{numbered, EachUpTo, OwnFit, CallsFit, own_calls, all_lines}
 
 pub numbered-append : {A : Type 0} (f : ℕ → A → List ℕ) (n : ℕ) (xs ys : List A) → numbered f n (xs ++ ys) ≡ numbered f n xs ++ numbered f (n + length xs) ys

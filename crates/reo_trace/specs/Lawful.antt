@@ -27,12 +27,12 @@ pub record FiresOneRegion (c : RawCircuit) (step : Step) : Type 0 where
   pub region : IsRegion c root
   pub connected : IsConnectedFiring c root (Fires step)
 
--- the calls are the first operations of the script, in order, and their numbers rise
+-- the calls are of the operations at the front of the script, one after the other, each in a later step
 pub record AreFirstOf (script : List Op) (calls : List Called) : Type 0 where
   pub first : map (λ call. call.op) calls ≡ take (length calls) script
   pub rising : IsStrictlyIncreasing (map (λ call. call.number) calls)
 
--- the step of the call's number has the call's port, with the call's value
+-- there is a step with the call's number, and in it the call's port fires with the call's value
 pub record StandsIn (steps : List Step) (call : Called) : Type 0 where
   pub step : Step
   pub found : slice_get steps call.number ≡ Some step
@@ -84,9 +84,9 @@ pub record IsLawfulReport (c : RawCircuit) (scripts : List (List Op)) (limit : �
   pub in_order : (k : ℕ) (script : List Op) (own : List Called) → slice_get scripts k ≡ Some script → slice_get report.calls k ≡ Some own → AreFirstOf script own
   -- each call stands in its step
   pub placed : (k i : ℕ) (call : Called) → call_at report.calls k i ≡ Some call → StandsIn report.steps call
-  -- each port in each step is that of one call
+  -- every port that fires in a step does so for one call
   pub once : (number : ℕ) (step : Step) (port : ℕ) → slice_get report.steps number ≡ Some step → port < length c.ports → Fires step port → IsAnsweredOnce report.calls number port
-  -- the circuit's regions, each of which has at most one firing past the limit
+  -- the circuit's regions: there are fewer steps than the limit plus the number of regions
   pub roots : List Automaton
   pub regions : AreRegions c roots
   pub bound : length report.steps < limit + length roots

@@ -8,7 +8,8 @@ use Rattle.reo_trace.specs.declared.report.Called.{Called}
 use Rattle.reo_trace.specs.declared.report.Report.{Report}
 use Rattle.reo_trace.specs.declared.write.WriteRefusal.{WriteRefusal}
 use Rattle.reo_trace.specs.declared.write.WriteRefusal.TheVariants.{Fault, NoMemory}
-use Rattle.reo_trace.specs.ReportText.{text_at, step_line, call_line, end_line}
+use Rattle.reo_value.specs.Lexicon.{text_at}
+use Rattle.reo_trace.specs.ReportText.{step_line, call_line, end_line}
 
 -- the texts of things that are numbered from here on
 abbrev pub numbered : {A : Type 0} → (ℕ → A → List ℕ) → ℕ → List A → List ℕ

@@ -1,6 +1,7 @@
 -- The text of a report, as bytes: a line for each step, then for each answered call, then for the end.
-use Rattle.std.specs.Prelude.{ℕ, ◌+◌, ◌-◌, ◌/◌, ◌%◌, ◌==◌, nat_lt, if◌then◌else◌, List, [], ◌∷◌, ◌++◌, length, slice_get, slice_index_or, flat_map, Option, Some, None, codes, decimal}
+use Rattle.std.specs.Prelude.{ℕ, ◌+◌, ◌-◌, ◌/◌, ◌%◌, ◌==◌, nat_lt, if◌then◌else◌, List, [], ◌∷◌, ◌++◌, length, slice_get, flat_map, Option, Some, None, codes, decimal}
 use Rattle.std.specs.Fmt.{signed_decimal}
+use Rattle.reo_value.specs.Lexicon.{text_at}
 use Rattle.reo_value.specs.declared.value.Value.{Value}
 use Rattle.reo_value.specs.declared.value.Value.TheVariants.{Int, Sym}
 use Rattle.reo_value.specs.declared.op.Op.{Op}
@@ -14,10 +15,6 @@ use Rattle.reo_trace.specs.declared.report.Called.{Called}
 use Rattle.reo_trace.specs.declared.report.Ending.{Ending}
 use Rattle.reo_trace.specs.declared.report.Ending.TheVariants.{Done, Stuck, Limit}
 use Rattle.reo_trace.specs.declared.report.Report.{Report}
-
--- the text of a number in a list of texts
-abbrev pub text_at : List (List ℕ) → ℕ → List ℕ
-text_at texts number = slice_index_or texts number []
 
 -- a byte of a text between quotes
 abbrev pub escaped : ℕ → List ℕ

@@ -1,8 +1,9 @@
 //! The lines of a report's text, each made in a buffer.
 ghost use Rattle.std.specs.Prelude.{◌≡◌, decimal, flat_map, slice_get, Some};
 ghost use Rattle.std.specs.Fmt.{signed_decimal};
+ghost use Rattle.reo_value.specs.Lexicon.{text_at};
 ghost use Rattle.reo_trace.specs.Buffer.{Takes, Fills};
-ghost use Rattle.reo_trace.specs.ReportText.{text_at, escaped, value_text, node_text, port_text, end_text, name_text, pair_text, step_line, op_text, call_line, end_line};
+ghost use Rattle.reo_trace.specs.ReportText.{escaped, value_text, node_text, port_text, end_text, name_text, pair_text, step_line, op_text, call_line, end_line};
 
 use crate::{Called, Ending};
 use itoa::Buffer;
@@ -17,10 +18,7 @@ pub(crate) fn bytes_at(texts: &Lexicon, number: usize) -> &[u8]
     if number >= texts.len() as usize {
         return &[];
     }
-    match texts.text(number as u32) {
-        Some(text) => text.as_bytes(),
-        None => &[],
-    }
+    texts.text_or_empty(number as u32).as_bytes()
 }
 
 fn push_bytes(buffer: &mut Vec<u8>, bytes: &[u8]) -> Result<(), AllocError>

@@ -1,6 +1,10 @@
-use Rattle.std.specs.Prelude.{◌≡◌, ℕ, suc, ◌≤◌, ◌^◌, List, [], ◌∷◌, ◌++◌, length, Option, Some, None, All, slice_get, is_some, if◌then◌else◌}
+use Rattle.std.specs.Prelude.{◌≡◌, ℕ, suc, ◌≤◌, ◌^◌, List, [], ◌∷◌, ◌++◌, length, Option, Some, None, All, slice_get, slice_index_or, is_some, if◌then◌else◌}
 use Rattle.std.specs.Option.{option_map}
 use Rattle.std.specs.Str.{bytes_eq}
+
+-- the text with this number, or no bytes where there is none
+abbrev pub text_at : List (List ℕ) → ℕ → List ℕ
+text_at texts number = slice_index_or texts number []
 
 -- the place of a text among the texts
 abbrev pub place_of : List (List ℕ) → List ℕ → Option ℕ

@@ -1,6 +1,6 @@
-//! The numbered list of a document's texts.
+//! Numbered lists of texts.
 ghost use Rattle.std.specs.Prelude.{◌≡◌, ◌≢◌, ℕ, ◌<◌, ◌≤◌, ◌^◌, ◌↔◌, length, [], All, None, Some, slice_get, option_copied, IsTrue, IsSome, IsErrOf, IfOk, IfSome, IfNone, OnOk, OnErr};
-ghost use Rattle.reo_value.specs.Lexicon.{place_of, added, NoRepeats};
+ghost use Rattle.reo_value.specs.Lexicon.{text_at, place_of, added, NoRepeats};
 
 use indexmap::IndexSet;
 use std::alloc::Global;
@@ -85,6 +85,17 @@ impl Lexicon {
         Some(text.as_str())
     }
 
+    /// The text with this number, or one of no bytes where there is none.
+    pub fn text_or_empty(&self, number: u32) -> &str
+        ensures text { result.now ≡ text_at self.now number }
+        ensures short { length result.now ≤ 255 }
+    {
+        match self.text(number) {
+            Some(text) => text,
+            None => "",
+        }
+    }
+
     /// The number of a text.
     pub fn find(&self, text: &str) -> Option<u32>
         ensures place { result ≡ place_of self.now text.now }
@@ -95,7 +106,7 @@ impl Lexicon {
         Some(number as u32)
     }
 
-    /// How many texts there are. Each has at most 255 bytes, and no two are equal.
+    /// How many texts there are.
     pub fn len(&self) -> u32
         ensures len { result ≡ length self.now }
         ensures few { length self.now ≤ 2 ^ 24 }

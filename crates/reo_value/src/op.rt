@@ -1,6 +1,6 @@
 use crate::value::Value;
 
-/// What a component does at a port.
+/// Which way a datum goes at a port: in, where components put, or out, where they get.
 #[derive(Clone, Copy, Debug, PartialEq, Eq)]
 pub enum Way {
     Put,

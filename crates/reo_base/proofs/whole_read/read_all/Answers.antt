@@ -47,3 +47,9 @@ pieces-preserved g c =
       consumed = subst (Consumes _ _) (sym items) (Consumes-trans _ _ _ _ _ c.pieces.invariant.consumed c.in_ok-count.ensures.bytes.0);
       calls = RisesAtMost-one_more _ _ _ _ _ c.pieces.invariant.calls c.in_ok-count.ensures.counted (grind (arith, common_steps, length-take));
     }
+
+pub returns-in_err-extend_from_slice-clause-untaken : goal.returns-in_err-extend_from_slice-clause-untaken
+returns-in_err-extend_from_slice-clause-untaken g c = λ _.
+    LosesAtMost-from_first _ _ _ _
+    (LosesFirst-read _ _ _ _ _ _ _ c.pieces.invariant.consumed c.in_ok-count.ensures.bytes.0 c.in_ok-count.ensures.bound.1 refl)
+    (omega (arith, c.if-count-free.false, c.pieces.invariant.within))

@@ -1,6 +1,6 @@
 use Rattle.std.proofs.Common.{length, rules, ap, pos}
 use Rattle.reo_value.specs.declared.value.Value.TheVariants.{Int}
-use Rattle.reo_guard.proofs.GivesLemmas.{at_case, at_integer, at_value}
+use Rattle.reo_guard.proofs.YieldsLemmas.{at_case, at_integer, at_value}
 use Rattle.reo_guard.proofs.fun.apply.Goals as goal
 
 pub returns-in-Add-Int : goal.returns-in-Add-Int
@@ -25,5 +25,5 @@ returns-in-Neg-Int c = record {
 
 pub returns-in-Len-Sym : goal.returns-in-Len-Sym
 returns-in-Len-Sym c = record {
-  exact = λ value. at_case _ _ _ _ _ value _ c.in-Len-Sym.is-0 c.in-Len-Sym.is-1 (at_value _ value _ _ c.length_of.ensures (ap (λ bytes. Int (pos (length bytes))) c.text_of.ensures.bytes));
+  exact = λ value. at_case _ _ _ _ _ value _ c.in-Len-Sym.is-0 c.in-Len-Sym.is-1 (at_value _ value _ _ c.length_of.ensures (ap (λ bytes. Int (pos (length bytes))) c.text_or_empty.ensures.text));
 }

@@ -4,4 +4,4 @@ use Rattle.reo_guard.proofs.guard.starts_with.Goals as goal
 
 pub returns-in-Sym : goal.returns-in-Sym
 returns-in-Sym c =
-    text_begins c.args.texts.now c.args.datum.now c.in-Sym.text _ _ _ c.starts_with.result c.in-Sym.is (c.as_bytes-bytes.ensures.value ∙ c.text_of.ensures.bytes) (c.as_bytes.ensures.value ∙ c.text_of-in-Sym.ensures.bytes) c.starts_with.ensures.value
+    text_begins c.args.texts.now c.args.datum.now c.in-Sym.text _ _ _ c.starts_with.result c.in-Sym.is (c.as_bytes-bytes.ensures.value ∙ c.text_or_empty.ensures.text) (c.as_bytes.ensures.value ∙ c.text_or_empty-in-Sym.ensures.text) c.starts_with.ensures.value

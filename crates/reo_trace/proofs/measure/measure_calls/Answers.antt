@@ -1,5 +1,5 @@
 use Rattle.std.proofs.Common.{◌≡◌, length, sym, arith, vec_capacity}
-use Rattle.reo_trace.specs.ReportText.{text_at}
+use Rattle.reo_value.specs.Lexicon.{text_at}
 use Rattle.reo_trace.specs.Passes.{own_calls, OwnFit}
 use Rattle.reo_trace.proofs.ListLemmas.{CallsFit-next, length-numbered-next}
 use Rattle.reo_trace.proofs.measure.measure_calls.Goals as goal

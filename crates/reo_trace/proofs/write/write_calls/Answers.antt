@@ -1,5 +1,5 @@
 use Rattle.std.proofs.Common.{sym, arith}
-use Rattle.reo_trace.specs.ReportText.{text_at}
+use Rattle.reo_value.specs.Lexicon.{text_at}
 use Rattle.reo_trace.specs.Passes.{own_calls}
 use Rattle.reo_trace.proofs.ListLemmas.{length-numbered-next, length-numbered-split}
 use Rattle.reo_trace.proofs.WriteLemmas.{extended-next, part-at}

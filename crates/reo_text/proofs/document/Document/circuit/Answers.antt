@@ -16,8 +16,8 @@ returns-clause-circuit c =
     same_circuit _ _ _ _ _ _ _ _ c.len.ensures.len c.len-2.ensures.len (c.in_ok-channels.ensures ∙ ap (filter_map channel_in) c.as_slice.ensures.value) (c.in_ok-ports.ensures ∙ ap (filter_map port_in) c.as_slice-2.ensures.value)
     ∙ ap circuit_of c.self.view_is
 
-pub returns-clause-well_formed : goal.returns-clause-well_formed
-returns-clause-well_formed c =
+pub returns-clause-is_circuit : goal.returns-clause-is_circuit
+returns-clause-is_circuit c =
     let is : ◌≡◌ {A = RawCircuit} (record { nodes = c.len.result; texts = c.len-2.result; channels = c.in_ok-channels.channels; ports = c.in_ok-ports.ports })
     (record { nodes = length c.self.inside.nodes; texts = length c.self.inside.texts; channels = filter_map channel_in c.self.inside.lines.items; ports = filter_map port_in c.self.inside.lines.items }) =
     same_circuit _ _ _ _ _ _ _ _ c.len.ensures.len c.len-2.ensures.len (c.in_ok-channels.ensures ∙ ap (filter_map channel_in) c.as_slice.ensures.value) (c.in_ok-ports.ensures ∙ ap (filter_map port_in) c.as_slice-2.ensures.value) in
