@@ -1,5 +1,5 @@
 -- What a read adds to what was taken before, and what a copy out of the rest leaves.
-use Rattle.std.proofs.Common.{◌≡◌, ℕ, ◌+◌, ◌-◌, ◌<◌, ◌≤◌, List, [], ◌++◌, length, take, drop, min, Result, Ok, Err, OnErr, sym, ap, ◌∙◌, arith, length-append, length-drop, length-take, take-append-drop}
+use Rattle.std.proofs.Common.{◌≡◌, ℕ, ◌+◌, ◌-◌, ◌<◌, ◌≤◌, List, [], ◌++◌, length, take, drop, min, sym, ap, ◌∙◌, arith, length-append, length-drop, length-take, take-append-drop}
 use Rattle.std.proofs.lemmas.List.{drop-drop, take_at, take_rest, nil_from_length}
 use Rattle.std.proofs.KnownBytes.{Consumes-trans}
 use Rattle.std.specs.declared.option.Option.{Option}
@@ -21,10 +21,6 @@ pub RisesAtMost-one_more : (a b c : Option ℕ) (made most : ℕ) → RisesAtMos
 RisesAtMost-one_more a b c made most before now le = λ n is.
     let at : (m : ℕ) × (b ≡ Some m) × (m ≤ n + made) = before n is in
     (counted at.0, now at.0 at.1, omega (arith, at.2, le))
-
-pub on_err : {T E P : Type 0} (r : Result T E) → P → OnErr r P
-on_err (Ok x) p = tt
-on_err (Err e) p = p
 
 -- `&now[taken..]` is the rest of the items
 rest_of : (items now : List ℕ) (taken : ℕ) → now ≡ items → take (length now - taken) (drop taken now) ≡ drop taken items

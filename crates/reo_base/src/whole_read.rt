@@ -1,4 +1,4 @@
-ghost use Rattle.std.specs.Prelude.{◌≡◌, ◌+◌, ◌≤◌, IfOk, OnOk, OnErr, IsErrOf, vec_len};
+ghost use Rattle.std.specs.Prelude.{◌≡◌, ◌+◌, ◌≤◌, IfOk, OnOk, IsErrOf, vec_len};
 ghost use Rattle.reo_base.specs.declared.whole_read.ReadRefusal.TheVariants.{Fault, NoMemory};
 ghost use Rattle.reo_base.specs.Faults.{Rose};
 ghost use Rattle.reo_base.specs.Streams.{IsReadWhole, LosesFirst, LosesAtMost, HasAtMost, HasMoreThan, RisesAtMost};
@@ -54,7 +54,6 @@ pub fn read_all<S: Source>(
     // What is gone: byte `max + 1` just where the input is too long.
     ensures taken { IsErrOf result ReadRefusal.TooLong → LosesFirst (S.left source.old) (S.left source.new) (max + 1) }
     ensures untaken { (IsErrOf result ReadRefusal.TooLong → ⊥) → LosesAtMost (S.left source.old) (S.left source.new) max }
-    ensures prefix { OnErr result (LosesAtMost (S.left source.old) (S.left source.new) (max + 1)) }
 
     ensures calls { RisesAtMost (S.reads source.old) (S.reads source.new) (max + 1) }
     ensures later { S.faults source.old ≤ S.faults source.new }

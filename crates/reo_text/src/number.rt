@@ -6,7 +6,7 @@ ghost use Rattle.reo_text.specs.Bytes.{is_digit, is_natural, number_of, positive
 
 use reo_value::Num;
 
-// One more than the greatest number, and the least without its sign.
+// The least number without its sign.
 const LIMIT: u64 = 1 << 62;
 
 /// The number that a word spells, where it is one in range.
@@ -23,10 +23,7 @@ fn positive(digits: &[u8]) -> Option<Num>
     ensures { result ≡ positive_of digits.now }
 {
     let magnitude = magnitude(digits)?;
-    if magnitude >= LIMIT {
-        return None;
-    }
-    Num::new(magnitude as i64)
+    Num::new(i64::try_from(magnitude).ok()?)
 }
 
 fn negative(digits: &[u8]) -> Option<Num>
