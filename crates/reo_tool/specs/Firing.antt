@@ -1,6 +1,6 @@
 -- What a node may do in a state of a circuit of FIFO1 channels, under what the components offer: which of its ends give
 -- a datum, which take one, and what is left when they fire.
-use Rattle.std.specs.Prelude.{◌≡◌, ◌≢◌, ℕ, Bool, false, not, ◌||◌, ◌==◌, ◌<◌, if◌then◌else◌, List, [], ◌∷◌, length, slice_set, slice_get, slice_index_or, map, filter, Contains, Option, Some, None}
+use Rattle.std.specs.Prelude.{◌≡◌, ℕ, Bool, false, not, ◌||◌, ◌==◌, ◌<◌, if◌then◌else◌, List, [], ◌∷◌, slice_set, slice_get, slice_index_or, map, filter, Contains, Option, Some, None}
 use Rattle.reo_value.specs.declared.value.Value.{Value}
 use Rattle.reo_value.specs.declared.op.Op.{Op}
 use Rattle.reo_value.specs.declared.op.Op.TheVariants as op
@@ -98,10 +98,3 @@ filled (end ∷ ends) value cells = filled ends value (filled_at end value cells
 -- the state after the firing: the input's channel is empty, each channel that begins at the node has the datum
 abbrev pub carried : List End → End → Value → State → State
 carried ends input value cells = filled ends value (emptied input cells)
-
--- the state after the firing: the datum is gone where it came from, and in each channel that begins at the node
-pub record Carries (ends : List End) (input : End) (value : Value) (old new : State) : Type 0 where
-  pub count : length new ≡ length old
-  pub filled : (k : ℕ) → IsAmong ends (Source k) → slice_index_or new k None ≡ Some value
-  pub emptied : (k : ℕ) → input ≡ Sink k → (IsAmong ends (Source k) → ⊥) → slice_index_or new k None ≡ None
-  pub kept : (k : ℕ) → (IsAmong ends (Source k) → ⊥) → input ≢ Sink k → slice_index_or new k None ≡ slice_index_or old k None
