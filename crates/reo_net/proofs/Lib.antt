@@ -1,7 +1,11 @@
+pub mod KindLemmas
+pub mod CellLemmas
 pub mod TableLemmas
+pub mod EndTableLemmas
 pub mod CheckLemmas
 pub mod NameLemmas
 pub mod FifoLemmas
 pub mod RunLemmas
 pub mod RegionLemmas
+pub mod RegionListLemmas
 pub mod StepLemmas
