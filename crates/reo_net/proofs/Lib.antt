@@ -3,6 +3,7 @@ pub mod CellLemmas
 pub mod TableLemmas
 pub mod EndTableLemmas
 pub mod CheckLemmas
+pub mod LoopLemmas
 pub mod NameLemmas
 pub mod FifoLemmas
 pub mod RunLemmas

@@ -3,7 +3,8 @@ use Rattle.std.proofs.Common.{◌≡◌, ℕ, ◌+◌, ◌<◌, ◌≤◌, ◌�
 use Rattle.std.proofs.lemmas.Bool.{cases_eq, false≢true}
 use Rattle.std.proofs.lemmas.List.{length-replicate, get_or-replicate}
 use Rattle.std.proofs.lemmas.Option.{same_Some}
-use Rattle.reo_net.specs.Checks.{IsLeast}
+use Rattle.reo_graph.specs.Paths.{IsLeast}
+use Rattle.reo_graph.proofs.LeastLemmas.{IsLeast-same, IsLeast-more}
 use Rattle.reo_net.specs.Tables.{Marks, IsKeyBelow, IsKeyTwiceBelow, IsPassBelow}
 
 -- one more mark
@@ -68,22 +69,6 @@ module _ {X : Type 0} (key : X → ℕ) (xs : List X) where
 -- what holds of all elements holds of the one that is read
 pub All_read : {X : Type 0} (P : X → Type 0) (xs : List X) (i : ℕ) (x : X) → All P xs → i < length xs → x ≡ get_or xs i x → P x
 All_read P xs i x all h read = subst P (sym read) (all i x h)
-
--- the least number stays, where no number is new
-pub IsLeast-same : (P Q : ℕ → Type 0) (o : Option ℕ) → ((n : ℕ) → P n → Q n) → ((n : ℕ) → Q n → P n) → IsLeast P o → IsLeast Q o
-IsLeast-same P Q None to from none = λ n q. none n (from n q)
-IsLeast-same P Q (Some n) to from least = (to n least.0, λ m q. least.1 m (from m q))
-
--- the least number, where one number is new
-pub IsLeast-more : (P Q : ℕ → Type 0) (o : Option ℕ) (x r : ℕ) → ((n : ℕ) → P n → Q n) → Q x → ((n : ℕ) → Q n → P n ⊎ (x ≡ n)) → IsLeast P o → IsLeast (λ n. (n ≡ x) ⊎ (o ≡ Some n)) (Some r) → IsLeast Q (Some r)
-IsLeast-more P Q None x r to new from none lesser = (
-  ⊎_elim (λ e. subst Q (sym e) new) (λ e. cc) lesser.0,
-  λ m q. ⊎_elim (λ p. absurd (none m p)) (λ e. lesser.1 m (inl (sym e))) (from m q),
-)
-IsLeast-more P Q (Some n) x r to new from least lesser = (
-  ⊎_elim (λ e. subst Q (sym e) new) (λ e. subst Q (same_Some n r e) (to n least.0)) lesser.0,
-  λ m q. ⊎_elim (λ p. let le : n ≤ m = least.1 m p in let r_le : r ≤ n = lesser.1 n (inr refl) in omega arith) (λ e. lesser.1 m (inl (sym e))) (from m q),
-)
 
 module _ {X : Type 0} (key : X → ℕ) (xs : List X) where
   -- the next element's key is had by one before it

@@ -1,11 +1,12 @@
 -- What is asked of a circuit, and why one is refused.
-use Rattle.std.specs.Prelude.{◌≢◌, ℕ, ◌<◌, ◌≤◌, ◌⊎◌, ◌^◌, length, All, Option, Some, None, IsTrue}
+use Rattle.std.specs.Prelude.{◌≢◌, ℕ, ◌<◌, ◌≤◌, ◌⊎◌, ◌^◌, length, All, IsTrue}
 use Rattle.reo_value.specs.declared.op.Way.{Way}
 use Rattle.reo_value.specs.declared.op.Way.TheVariants.{Put, Get}
 use Rattle.reo_net.specs.declared.kind.Kind.{Kind}
 use Rattle.reo_net.specs.declared.circuit.RawCircuit.{RawCircuit}
 use Rattle.reo_net.specs.Kind.{Incoming, Outgoing, is_fifo, texts_of_kind}
 use Rattle.reo_net.specs.Names.{IsPortAt, IsEndA, IsEndB}
+use Rattle.reo_net.specs.Loops.{IsOnLoop}
 
 -- each text that the kind names has a number below this
 abbrev pub HasTextsBelow : ℕ → Kind → Type 0
@@ -63,8 +64,4 @@ pub record IsChecked (c : RawCircuit) : Type 0 where
   pub few_ports : length c.ports ≤ 128
   pub one_port : (node : ℕ) → HasTwoPorts c node → ⊥
   pub unmixed : (node : ℕ) → IsMixed c node → ⊥
-
--- the least number of which P holds, if there is any
-abbrev pub IsLeast : (ℕ → Type 0) → Option ℕ → Type 0
-IsLeast P None = (n : ℕ) → P n → ⊥
-IsLeast P (Some n) = P n × ((m : ℕ) → P m → n ≤ m)
+  pub acyclic : (node : ℕ) → IsOnLoop c node → ⊥

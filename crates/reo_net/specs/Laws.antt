@@ -1,13 +1,16 @@
 -- Laws of the definitions, each the contract of a function that does nothing.
-use Rattle.std.specs.Prelude.{◌≡◌, ℕ, ◌<◌, ◌↔◌, List, map, Bool, IsTrue}
+use Rattle.std.specs.Prelude.{◌≡◌, ℕ, ◌<◌, ◌↔◌, List, map, slice_get, Some, Bool, true, IsTrue}
 use Rattle.std.specs.List.{range_with_len}
+use Rattle.reo_net.specs.declared.circuit.Channel.{Channel}
 use Rattle.reo_net.specs.declared.circuit.RawCircuit.{RawCircuit}
 use Rattle.reo_net.specs.declared.circuit.Step.{Step}
 use Rattle.reo_net.specs.Names.{name_count, IsNameOf, IsIncoming, IsOutgoing}
 use Rattle.reo_net.specs.Steps.{State, NodeFires}
 use Rattle.reo_net.specs.Runs.{Run}
 use Rattle.reo_net.specs.Regions.{Automaton, OfNode, SameRegion, AreRegions, FiresNoCellTwice, IsConnectedFiring}
-use Rattle.reo_net.specs.Checks.{IsCircuit, IsFifoOnly}
+use Rattle.reo_net.specs.Kind.{hands_on}
+use Rattle.reo_net.specs.Loops.{node_rank}
+use Rattle.reo_net.specs.Checks.{IsCircuit, IsChecked, IsFifoOnly}
 
 -- a run's steps determine the state that it ends in
 abbrev pub RunsEndOnce : Type 0
@@ -24,6 +27,11 @@ NamesHaveOneDirection = (c : RawCircuit) (m n name : ℕ) → IsIncoming c m nam
 -- the names that there are, are those of the circuit's nodes
 abbrev pub NodesHaveTheNames : Type 0
 NodesHaveTheNames = (c : RawCircuit) → IsCircuit c → (name : ℕ) → (name < name_count c) ↔ ((node : ℕ) × (node < c.nodes) × IsNameOf c node name)
+
+-- in an accepted circuit each channel that hands data on at once leads from a node of lower rank to one of a higher
+abbrev pub RanksRiseAlongChannels : Type 0
+RanksRiseAlongChannels = (c : RawCircuit) → IsChecked c → (k : ℕ) (channel : Channel) → slice_get c.channels k ≡ Some channel
+    → hands_on channel.kind ≡ true → node_rank c channel.a < node_rank c channel.b
 
 -- two lists of all the regions of a circuit are one list: so the number of regions is one number
 abbrev pub RegionsAreOneList : Type 0

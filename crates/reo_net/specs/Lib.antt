@@ -4,6 +4,7 @@ pub mod Steps
 pub mod Parts
 pub mod Runs
 pub mod Regions
+pub mod Loops
 pub mod Tables
 pub mod Checks
 pub mod Refusals

@@ -1,12 +1,15 @@
 //! The checks on a circuit, and a circuit that passed them.
-ghost use Rattle.std.specs.Prelude.{◌≡◌, ◌+◌, ◌*◌, ◌<◌, ◌⊎◌, length, All, None, Some, IfOk, IfErr, OnOk};
+ghost use Rattle.std.specs.Prelude.{◌≡◌, ◌+◌, ◌*◌, ◌<◌, ◌⊎◌, length, filter_map, All, None, Some, IfOk, IfErr, OnOk};
 ghost use Rattle.reo_value.specs.declared.op.Way.TheVariants.{Put, Get};
 ghost use Rattle.reo_net.specs.Names.{name_count};
-ghost use Rattle.reo_net.specs.Tables.{Marks, IsKeyTwiceBelow, IsPassBelow, IsSourceBelow, comes_out, is_marked};
-ghost use Rattle.reo_net.specs.Checks.{IsCircuit, HasTwoPorts, IsMixed, IsChecked, IsLeast};
+ghost use Rattle.reo_net.specs.Tables.{Marks, handing_edge, IsKeyTwiceBelow, IsPassBelow, IsSourceBelow, comes_out, is_marked};
+ghost use Rattle.reo_graph.specs.Paths.{IsLeast};
+ghost use Rattle.reo_net.specs.Checks.{IsCircuit, HasTwoPorts, IsMixed, IsChecked};
+ghost use Rattle.reo_net.specs.Loops.{IsOnLoop};
 ghost use Rattle.reo_net.specs.Refusals.{Refuses};
 
 use crate::circuit::{Channel, Port, RawCircuit};
+use reo_graph::least_on_loop;
 use reo_value::Way;
 use sqlite_items::Items;
 use std::alloc::{AllocError, Global};
@@ -49,6 +52,8 @@ pub enum CheckRefusal {
     PortTwice(u32),
     #[error("node {0}: mixed node as port")]
     MixedPort(u32),
+    #[error("node {0}: synchronous loop")]
+    SyncLoop(u32),
     #[error("out of memory")]
     NoMemory,
 }
@@ -159,6 +164,38 @@ fn mixed_node(alloc: Global, raw: &RawCircuit) -> Result<Option<u32>, AllocError
     Ok(least)
 }
 
+// The nodes from which and to which the channel hands data on at once, where it does.
+fn handing_edge(channel: &Channel) -> Option<(u32, u32)>
+    ensures { result ≡ handing_edge channel.now }
+{
+    if channel.kind.hands_on() {
+        Some((channel.a, channel.b))
+    } else {
+        None
+    }
+}
+
+fn handing_edges(alloc: Global, channels: &[Channel]) -> Result<Vec<(u32, u32)>, AllocError>
+    ensures { IfOk result (λ edges. edges.items ≡ filter_map handing_edge channels.now) }
+{
+    let mut edges = Vec::new(alloc);
+    for channel in channels {
+        if let Some(edge) = handing_edge(channel) {
+            edges.push(edge)?;
+        }
+    }
+    Ok(edges)
+}
+
+// The least node on a synchronous loop.
+fn node_on_loop(alloc: Global, raw: &RawCircuit) -> Result<Option<u32>, AllocError>
+    ensures { IfOk result (IsLeast (IsOnLoop raw.now)) }
+{
+    let edges = handing_edges(alloc, raw.channels.as_slice())?;
+    let least = least_on_loop(alloc, &edges)?;
+    Ok(least)
+}
+
 fn copy_channels(alloc: Global, channels: &[Channel]) -> Result<Items<Channel>, AllocError>
     ensures { IfOk result (λ copy. copy ≡ channels.now) }
 {
@@ -198,6 +235,9 @@ pub fn check(alloc: Global, raw: &RawCircuit) -> Result<Net, CheckRefusal>
     }
     if let Some(node) = mixed_node(alloc, raw)? {
         return Err(CheckRefusal::MixedPort(node));
+    }
+    if let Some(node) = node_on_loop(alloc, raw)? {
+        return Err(CheckRefusal::SyncLoop(node));
     }
     let circuit = copied(alloc, raw)?;
     Ok(Net { circuit })

@@ -1,9 +1,10 @@
 use Rattle.std.proofs.Common.{ℕ, List, Bool, length, subst}
 use Rattle.reo_net.specs.declared.circuit.Port.{Port}
 use Rattle.reo_net.specs.declared.circuit.Channel.{Channel}
-use Rattle.reo_net.specs.Checks.{IsLeast, IsMixed}
+use Rattle.reo_graph.specs.Paths.{IsLeast}
+use Rattle.reo_net.specs.Checks.{IsMixed}
 use Rattle.reo_net.specs.Tables.{Marks, IsPassBelow, IsSourceBelow, comes_out, is_marked}
-use Rattle.reo_net.proofs.TableLemmas.{IsLeast-same}
+use Rattle.reo_graph.proofs.LeastLemmas.{IsLeast-same}
 use Rattle.reo_net.proofs.CheckLemmas.{IsMixed-from_pass, pass_from_IsMixed}
 use Rattle.reo_net.proofs.net.mixed_node.Goals as goal
 
