@@ -28,8 +28,7 @@ pub returns-clause-exact : goal.returns-clause-exact
 returns-clause-exact c = λ ss rep.
     let yes : c.is_empty.result ≡ true = grind arith in
     let none : has_component ss ≡ false = has_component-none c.args.self.now ss rep (c.is_empty.ensures.0 yes) in
-    let one : IsBuilder c.number.new.self = IsBuilder-numbered _ _ _ _ c.requires.builder c.in_ok-a.ensures in
-    (
+    let one : IsBuilder c.number.new.self = IsBuilder-numbered _ _ _ _ c.requires.builder c.in_ok-a.ensures in (
       Represents-fifo c.args.self.now c.number.new.self c.number-2.new.self _ ss c.args.a.now c.args.b.now c.args.first c.in_ok-a.a c.in_ok-b.b rep none c.requires.builder.seats one.seats c.in_ok-a.ensures c.in_ok-b.ensures
           (c.in_ok-push.ensures.items ∙ ap (λ v. c.number-2.new.self.lines.items ++ line.Channel (record { kind = Fifo v; a = c.in_ok-a.a; b = c.in_ok-b.b }) ∷ []) c.value_of.ensures)
           refl refl refl refl refl refl,
