@@ -5,6 +5,7 @@ pub mod EndTableLemmas
 pub mod CheckLemmas
 pub mod LoopLemmas
 pub mod NameLemmas
+pub mod StandLemmas
 pub mod FifoLemmas
 pub mod RunLemmas
 pub mod RegionLemmas

@@ -1,5 +1,6 @@
 pub mod Kind
 pub mod Names
+pub mod Stand
 pub mod Steps
 pub mod Parts
 pub mod Runs

@@ -1,8 +1,8 @@
 //! Whether a step is one of the product, by its definition alone: slow, and without a table.
-ghost use Rattle.std.specs.Prelude.{◌≡◌, ℕ, ◌+◌, ◌*◌, ◌<◌, ◌↔◌, length, map, All, Some, slice_index_or, count_by, nat_eq, IsTrue, MatchBool, MatchOption};
+ghost use Rattle.std.specs.Prelude.{◌≡◌, ℕ, ◌+◌, ◌*◌, ◌<◌, ◌↔◌, length, map, All, Some, slice_index_or, count_by, nat_eq, IsTrue, MatchOption};
 ghost use Rattle.std.specs.List.Sorted.{IsStrictlyIncreasing};
 ghost use Rattle.std.specs.Map.{lookup};
-ghost use Rattle.reo_net.specs.Names.{name_count, IsIncoming, IsOutgoing, IsNameOf};
+ghost use Rattle.reo_net.specs.Names.{IsIncoming, IsOutgoing, IsNameOf};
 ghost use Rattle.reo_net.specs.Kind.{is_fifo};
 ghost use Rattle.reo_net.specs.Steps.{datum, content, IsStep, NodeStays, NodeStep, ChannelAllows, NodeAllows, ProductStep};
 ghost use Rattle.reo_net.specs.Parts.{IsAlone, AllGet, IsInput};
@@ -10,7 +10,8 @@ ghost use Rattle.reo_net.specs.Parts.{IsAlone, AllGet, IsInput};
 use crate::circuit::{Channel, Step};
 use crate::kind::same;
 use crate::net::Net;
-use reo_value::{Lexicon, Value, Way};
+use crate::stand::{Stand, stand_of};
+use reo_value::{Lexicon, Value};
 
 fn datum_among(pairs: &[(u32, Value)], name: u32) -> Option<Value>
     ensures { result ≡ lookup (nat_eq name) pairs.now }
@@ -133,47 +134,36 @@ fn channels_allow(
     true
 }
 
-// The node of a name, and whether data come into the node there.
-fn node_of(net: &Net, name: u32) -> (u32, bool)
-    requires { name < name_count net.now }
-    ensures { MatchBool result.1 (IsIncoming net.now result.0 name) (IsOutgoing net.now result.0 name) }
+fn stands_so(found: Option<Stand>, wanted: Stand) -> bool
+    ensures { IsTrue result ↔ (found ≡ Some wanted) }
 {
-    let ports = net.ports();
-    let name = name as usize;
-    if name < ports.len() {
-        let port = ports[name];
-        return (port.node, port.way == Way::Put);
-    }
-    let end = name - ports.len();
-    let channel = &net.channels()[end / 2];
-    if end % 2 == 0 {
-        (channel.a, false)
-    } else {
-        (channel.b, channel.kind.comes_out_at_b())
-    }
+    found == Some(wanted)
 }
 
 fn is_incoming(net: &Net, node: u32, name: u32) -> bool
-    requires { name < name_count net.now }
     ensures { IsTrue result ↔ IsIncoming net.now node name }
 {
-    let (at, incoming) = node_of(net, name);
-    at == node && incoming
+    let incoming = Stand {
+        node,
+        incoming: true,
+    };
+    stands_so(stand_of(net, name), incoming)
 }
 
 fn is_outgoing(net: &Net, node: u32, name: u32) -> bool
-    requires { name < name_count net.now }
     ensures { IsTrue result ↔ IsOutgoing net.now node name }
 {
-    let (at, incoming) = node_of(net, name);
-    at == node && !incoming
+    let outgoing = Stand {
+        node,
+        incoming: false,
+    };
+    stands_so(stand_of(net, name), outgoing)
 }
 
 fn is_name_of(net: &Net, node: u32, name: u32) -> bool
-    requires { name < name_count net.now }
     ensures { IsTrue result ↔ IsNameOf net.now node name }
 {
-    node_of(net, name).0 == node
+    is_incoming(net, node, name) || is_outgoing(net, node, name)
 }
 
 // Whether no name of the node is in the step.
