@@ -1,0 +1,4 @@
+pub mod PlaceLemmas
+pub mod CodeLemmas
+pub mod FittingLemmas
+pub mod WordLemmas
