@@ -1,5 +1,5 @@
 -- Codes determine their values.
-use Rattle.std.proofs.Common.{◌≡◌, ℕ, refl, sym, ap, ◌∙◌, arith}
+use Rattle.std.proofs.Common.{◌≡◌, ap, arith}
 use Rattle.std.specs.Prelude.{pos, negsuc}
 use Rattle.std.proofs.lemmas.Int.{ints}
 use Rattle.reo_value.specs.declared.value.Value.{Value}

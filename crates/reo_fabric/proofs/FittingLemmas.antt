@@ -1,15 +1,13 @@
 -- Fitting entries and the state that was read.
-use Rattle.std.proofs.Common.{◌≡◌, ℕ, ◌<◌, ◌≤◌, Bool, true, List, length, map, slice_get, get_or, All, Option, Some, None, IfSome, refl, sym, ap, ◌∙◌, subst, arith}
+use Rattle.std.proofs.Common.{◌≡◌, ℕ, ◌<◌, Bool, true, List, length, slice_get, get_or, Option, Some, None, IfSome, refl, sym, ap, ◌∙◌, arith}
 use Rattle.std.proofs.lemmas.Bool.{eq-eqb}
 use Rattle.std.proofs.lemmas.Option.{slice_get-get_or, slice_get_within}
 use Rattle.reo_value.specs.Code.{code_of, IsValue}
 use Rattle.reo_value.specs.declared.value.Value.{Value}
-use Rattle.reo_fabric.specs.declared.entry.Entry.{Entry}
 use Rattle.reo_fabric.specs.declared.fabric.Fabric.{Fabric}
-use Rattle.reo_fabric.specs.declared.reading.Reading.{Reading}
-use Rattle.reo_fabric.specs.Entry.{State, Agrees, at_place}
+use Rattle.reo_fabric.specs.Entry.{State, at_place}
 use Rattle.reo_fabric.specs.Reading.{Offers, reading_of, cell_word, cells_of}
-use Rattle.reo_fabric.specs.Decider.{IsFitting, Takes, Fills, Puts, Gets}
+use Rattle.reo_fabric.specs.Decider.{Takes, Fills, Puts, Gets}
 use Rattle.reo_fabric.specs.Laws.{AreValues, FittingAgree, FittingHaveRoom}
 use Rattle.reo_fabric.proofs.CodeLemmas.{codes_differ, code_is_not_zero}
 use Rattle.reo_fabric.proofs.PlaceLemmas.{at_mapped, Passes, few_places}

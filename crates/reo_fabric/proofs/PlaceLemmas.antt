@@ -1,5 +1,5 @@
 -- Lists of places that rise.
-use Rattle.std.proofs.Common.{◌≡◌, ℕ, zero, suc, ◌+◌, ◌<◌, ◌≤◌, ◌⊎◌, ⊎_elim, Bool, true, false, cond, List, [], ◌∷◌, length, map, slice_get, get_or, nat_eq, count_by, All, Option, Some, None, refl, sym, ap, ◌∙◌, subst, arith}
+use Rattle.std.proofs.Common.{◌≡◌, ℕ, zero, suc, ◌+◌, ◌<◌, ◌≤◌, ⊎_elim, Bool, true, false, cond, List, [], ◌∷◌, length, map, slice_get, nat_eq, count_by, All, Some, None, refl, sym, ap, ◌∙◌, subst, arith}
 use Rattle.std.proofs.lemmas.Bool.{cases_eq}
 use Rattle.std.proofs.lemmas.List.Sums.{sum_by-cons}
 use Rattle.std.proofs.lemmas.Bool.Decides.{eqb_tells}
@@ -18,10 +18,10 @@ head_all P x xs all = all 0 x (omega arith)
 pub tail_all : {A : Type 0} (P : A → Type 0) (x : A) (xs : List A) → All P (x ∷ xs) → All P xs
 tail_all P x xs all = λ k d within. all (suc k) d (omega arith)
 
-at_first : {A : Type 0} (p : ℕ × A) (places : List (ℕ × A)) (c : ℕ) → nat_eq c p.0 ≡ true → at_place (p ∷ places) c ≡ Some p.1
+pub at_first : {A : Type 0} (p : ℕ × A) (places : List (ℕ × A)) (c : ℕ) → nat_eq c p.0 ≡ true → at_place (p ∷ places) c ≡ Some p.1
 at_first p places c is = ap (λ b. cond b (Some p.1) (at_place places c)) is
 
-at_later : {A : Type 0} (p : ℕ × A) (places : List (ℕ × A)) (c : ℕ) → nat_eq c p.0 ≡ false → at_place (p ∷ places) c ≡ at_place places c
+pub at_later : {A : Type 0} (p : ℕ × A) (places : List (ℕ × A)) (c : ℕ) → nat_eq c p.0 ≡ false → at_place (p ∷ places) c ≡ at_place places c
 at_later p places c is = ap (λ b. cond b (Some p.1) (at_place places c)) is
 
 -- what is at a place stands in the list

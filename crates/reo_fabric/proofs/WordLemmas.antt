@@ -1,7 +1,12 @@
 -- How a region's words are listed and read.
-use Rattle.std.proofs.Common.{◌≡◌, ℕ, ◌+◌, ◌<◌, ◌⊎◌, ⊎_elim, inl, inr, append-nil, length-take-le, Bool, true, false, cond, List, [], ◌∷◌, ◌++◌, length, map, get_or, take, refl, sym, ap, ◌∙◌, subst, arith, add-zero}
+use Rattle.std.proofs.Common.{◌≡◌, ℕ, ◌+◌, ◌<◌, ◌⊎◌, ⊎_elim, inl, inr, append-nil, length-take-le, Bool, true, false, cond, List, [], ◌∷◌, ◌++◌, length, map, get_or, take, refl, sym, ap, ◌∙◌, arith, add-zero, None}
+use Rattle.std.proofs.lemmas.Simd.{map-map}
 use Rattle.std.proofs.lemmas.List.{ext_get_or, length-map, get_or-map, map-append, take_more}
-use Rattle.reo_fabric.specs.Reading.{places_of}
+use Rattle.reo_fabric.specs.declared.fabric.Fabric.{Fabric}
+use Rattle.reo_fabric.specs.declared.reading.Reading.{Reading}
+use Rattle.reo_fabric.specs.Entry.{State}
+use Rattle.reo_fabric.specs.Reading.{places_of, Offers, cells_of, ports_of, cell_word, state_word, data_word, reading_of}
+use Rattle.reo_fabric.specs.Engine.{IsUnread}
 
 -- a list of which each element is what a function makes of the old one
 pub mapped_all : {A : Type 0} (f : A → A) (d : A) (old new : List A) → length new ≡ length old → ((k : ℕ) → k < length old → get_or new k d ≡ f (get_or old k d)) → new ≡ map f old
@@ -43,3 +48,15 @@ module _ {A : Type 0} (test : A → Bool) where
       → map first old ≡ places_of test 0 (take i xs) → map first new ≡ places_of test 0 (take (i + 1) xs)
   kept first xs i d old new w within on place is before =
       ap (map first) is ∙ (map-append first old (w ∷ []) ∙ (ap (λ l. l ++ first w ∷ []) before ∙ (ap (λ m. places_of test 0 (take i xs) ++ m ∷ []) place ∙ sym (passed xs i d within on))))
+
+-- the words of the region's places, read anew
+pub reading_anew : (fabric : Fabric) (region : ℕ) (state : State) (offers : Offers) (old : Reading) (cells : List (ℕ × ℕ)) (ports : List (ℕ × ℕ × ℕ)) → IsUnread fabric region old
+    → cells ≡ map (λ p. (p.0, cell_word (get_or state p.0 None))) old.cells
+    → ports ≡ map (λ p. (p.0, state_word (get_or offers p.0 None), data_word (get_or offers p.0 None))) old.ports
+    → record old { cells = cells; ports = ports } ≡ reading_of fabric region state offers
+reading_anew fabric region state offers old cells ports unread cells_are ports_are =
+    let cell : ℕ → ℕ × ℕ = λ c. (c, cell_word (get_or state c None)) in
+    let port : ℕ → ℕ × ℕ × ℕ = λ p. (p, state_word (get_or offers p None), data_word (get_or offers p None)) in
+    let same_cells : cells ≡ map cell (cells_of fabric region) = cells_are ∙ (sym (map-map cell (λ (p : ℕ × ℕ). p.0) old.cells) ∙ ap (map cell) unread.of_region.cells) in
+    let same_ports : ports ≡ map port (ports_of fabric region) = ports_are ∙ (sym (map-map port (λ (p : ℕ × ℕ × ℕ). p.0) old.ports) ∙ ap (map port) unread.of_region.ports) in
+    cc (unread.of_region.region_is, unread.no_round, unread.no_clock, same_cells, same_ports)

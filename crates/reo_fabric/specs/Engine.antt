@@ -7,7 +7,8 @@ use Rattle.reo_fabric.specs.declared.fabric.Fabric.{Fabric}
 use Rattle.reo_fabric.specs.declared.reading.Reading.{Reading}
 use Rattle.reo_fabric.specs.declared.port_state.PortState.{PortState}
 use Rattle.reo_fabric.specs.declared.port_state.PortState.TheVariants.{Idle, Offered, Answered}
-use Rattle.reo_fabric.specs.Entry.{State, at_place, carried_out}
+use Rattle.reo_fabric.specs.Entry.{State, Agrees, at_place, carried_out}
+use Rattle.reo_fabric.specs.Decider.{IsChosen}
 use Rattle.reo_fabric.specs.Fabric.{first_state}
 use Rattle.reo_fabric.specs.Reading.{Offers, reading_of, IsReadingIn}
 
@@ -79,3 +80,21 @@ after_entry engine entry = record engine {
 -- the engine with this at a port
 abbrev pub with_port : {D : Type 0} → EngineState D → ℕ → PortState → EngineState D
 with_port engine port state = record engine { ports = slice_set engine.ports port state }
+
+-- the engine carries out the entry that its decider chooses for what the region reads, which agrees with
+-- its state, and gives the entry's number
+pub record Fires {D : Type 0} (Allows : ℕ → Reading → Entry → Type 0) (first_choice : ℕ → Reading → Option ℕ) (region : ℕ) (old new : EngineState D) (number : ℕ) : Type 0 where
+  pub entry : Entry
+  pub chosen : IsChosen Allows first_choice region (engine_reading old region) entry
+  pub agrees : Agrees old.cells entry
+  pub counted : number ≡ old.count
+  pub after : new ≡ after_entry old entry
+
+-- the engine without the answer at a port
+abbrev pub without_answer : {D : Type 0} → EngineState D → ℕ → PortState → EngineState D
+without_answer engine port Idle = engine
+without_answer engine port (Offered value) = engine
+without_answer engine port (Answered value number) = with_port engine port Idle
+
+abbrev pub taken_answer : {D : Type 0} → EngineState D → ℕ → EngineState D
+taken_answer engine port = without_answer engine port (slice_index_or engine.ports port Idle)

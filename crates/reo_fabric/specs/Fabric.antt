@@ -1,6 +1,5 @@
 -- Which fabrics are lawful, and whose a cell or a port is.
 use Rattle.std.specs.Prelude.{◌≡◌, ℕ, ◌<◌, ◌^◌, length, map, slice_get, All, Some, IfSome}
-use Rattle.reo_value.specs.Code.{IsValue}
 use Rattle.reo_value.specs.declared.op.Way.{Way}
 use Rattle.reo_fabric.specs.declared.fabric.CellSpec.{CellSpec}
 use Rattle.reo_fabric.specs.declared.fabric.PortSpec.{PortSpec}

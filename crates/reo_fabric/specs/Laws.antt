@@ -1,5 +1,5 @@
 -- What fitting entries are to the state that was read.
-use Rattle.std.specs.Prelude.{◌≡◌, ℕ, ◌<◌, length, All, IfSome}
+use Rattle.std.specs.Prelude.{◌≡◌, ℕ, length, All, IfSome}
 use Rattle.reo_value.specs.Code.{IsValue}
 use Rattle.reo_fabric.specs.declared.entry.Entry.{Entry}
 use Rattle.reo_fabric.specs.declared.fabric.Fabric.{Fabric}

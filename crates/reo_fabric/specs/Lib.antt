@@ -8,3 +8,4 @@ pub mod Room
 pub mod Engine
 pub mod Writes
 pub mod Laws
+pub mod Whole

@@ -2,8 +2,6 @@
 use Rattle.std.specs.Prelude.{◌≡◌, ℕ, ◌+◌, Bool, ◌||◌, List, [], ◌∷◌, map, slice_index_or, Option, Some, None, nat_eq, if◌then◌else◌}
 use Rattle.reo_value.specs.declared.value.Value.{Value}
 use Rattle.reo_value.specs.Code.{code_of}
-use Rattle.reo_fabric.specs.declared.fabric.CellSpec.{CellSpec}
-use Rattle.reo_fabric.specs.declared.fabric.PortSpec.{PortSpec}
 use Rattle.reo_fabric.specs.declared.fabric.Fabric.{Fabric}
 use Rattle.reo_fabric.specs.declared.reading.Reading.{Reading}
 use Rattle.reo_fabric.specs.Entry.{State}

@@ -1,8 +1,6 @@
 -- An entry that is being written, and how many places its lists have room for.
-use Rattle.std.specs.Prelude.{◌≡◌, ℕ, ◌≤◌, Bool, ◌&&◌, [], ◌∷◌, ◌++◌, length, count_by, nat_eq}
+use Rattle.std.specs.Prelude.{◌≡◌, ℕ, ◌≤◌, [], ◌∷◌, ◌++◌, length, count_by, nat_eq}
 use Rattle.reo_value.specs.declared.value.Value.{Value}
-use Rattle.reo_value.specs.declared.op.Way.{Way}
-use Rattle.reo_value.specs.declared.op.Way.TheVariants.{Put, Get}
 use Rattle.reo_fabric.specs.declared.entry.Entry.{Entry}
 use Rattle.reo_fabric.specs.declared.fabric.Fabric.{Fabric}
 

@@ -1,8 +1,11 @@
 //! The writes that carry an entry out.
 ghost use Rattle.std.specs.Prelude.{◌≡◌, ◌<◌, length, All, Some, None};
 ghost use Rattle.reo_fabric.specs.declared.port_state.PortState.TheVariants.{Answered};
-ghost use Rattle.reo_fabric.specs.Writes.{written};
+ghost use Rattle.reo_fabric.specs.Entry.{carried_out};
+ghost use Rattle.reo_fabric.specs.Engine.{answered};
+ghost use Rattle.reo_fabric.specs.Writes.{written, IsWithin};
 
+use crate::entry_ref::EntryRef;
 use crate::port_state::PortState;
 use reo_value::Value;
 
@@ -34,4 +37,21 @@ pub(crate) fn answer_ports(ports: &mut [PortState], places: &[(u32, Value)], num
     for (port, value) in places {
         ports[*port as usize] = PortState::Answered(*value, number);
     }
+}
+
+/// Carries out an entry of this number.
+pub(crate) fn carry_out(
+    cells: &mut [Option<Value>],
+    ports: &mut [PortState],
+    entry: &EntryRef<'_>,
+    number: u64,
+)
+    requires within { IsWithin (length cells.old) (length ports.old) entry.now }
+    ensures cells { cells.new ≡ carried_out cells.old entry.now }
+    ensures ports { ports.new ≡ answered ports.old number entry.now }
+{
+    fill_cells(cells, entry.fills());
+    empty_cells(cells, entry.takes());
+    answer_ports(ports, entry.gets(), number);
+    answer_ports(ports, entry.puts(), number);
 }

@@ -3,6 +3,7 @@
 
 mod carry;
 mod decider;
+mod engine;
 mod entry;
 mod entry_ref;
 mod fabric;
@@ -14,6 +15,7 @@ mod spare;
 mod words;
 
 pub use decider::Decider;
+pub use engine::PlainEngine;
 pub use entry::{Entry, Numbered};
 pub use entry_ref::EntryRef;
 pub use fabric::{CellSpec, Fabric, PortSpec};

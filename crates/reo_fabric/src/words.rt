@@ -1,6 +1,7 @@
 //! The words that a region reads.
 ghost use Rattle.std.specs.Prelude.{◌≡◌, ℕ, ◌<◌, ◌^◌, ◌||◌, length, map, slice_index_or, nat_eq, None, IfOk};
-ghost use Rattle.reo_fabric.specs.Reading.{places_of, cell_word, state_word, data_word};
+ghost use Rattle.reo_fabric.specs.declared.fabric.Fabric.{Fabric as AnyFabric};
+ghost use Rattle.reo_fabric.specs.Reading.{places_of, reading_of, cell_word, state_word, data_word};
 ghost use Rattle.reo_fabric.specs.Engine.{offers_of, IsUnread};
 
 use crate::fabric::{CellSpec, Fabric, PortSpec};
@@ -127,4 +128,12 @@ pub(crate) fn unread(alloc: Global, fabric: &Fabric, region: u32) -> Result<Read
         cells: unread_cells(alloc, fabric.cells.as_slice(), region)?,
         ports: unread_ports(alloc, fabric.ports.as_slice(), region)?,
     })
+}
+
+/// Reads all words of a region anew.
+pub(crate) fn read_region(reading: &mut Reading, cells: &[Option<Value>], ports: &[PortState])
+    ensures { (fabric : AnyFabric) (region : ℕ) → IsUnread fabric region reading.old → reading.new ≡ reading_of fabric region cells.now (offers_of ports.now) }
+{
+    read_cells(&mut reading.cells, cells);
+    read_ports(&mut reading.ports, ports);
 }

@@ -1,4 +1,4 @@
-use Rattle.std.proofs.Common.{◌≡◌, ℕ, ◌||◌, Vec, Global, Bool, map, nat_eq, get_or, None, refl, sym, ap, ◌∙◌}
+use Rattle.std.proofs.Common.{◌≡◌, ℕ, Vec, Global, Bool, map, nat_eq, get_or, None, refl, sym, ap, ◌∙◌}
 use Rattle.reo_value.specs.declared.op.Way.TheVariants.{Put}
 use Rattle.reo_fabric.specs.declared.fabric.PortSpec.{PortSpec}
 use Rattle.reo_fabric.proofs.WordLemmas.{kept, failed}
