@@ -3,7 +3,7 @@ use Rattle.std.proofs.Common.{◌≡◌, ℕ, zero, suc, ◌+◌, ◌<◌, ◌�
 use Rattle.std.proofs.lemmas.Bool.{or_left, or_right, or_cases, and_from, and_parts, cases_eq, false≢true}
 use Rattle.reo_graph.specs.Paths.{Path}
 use Rattle.reo_graph.specs.Paths.Path.{one, more}
-use Rattle.reo_graph.specs.Closure.{goes, AreBelow, count_below, rank}
+use Rattle.reo_graph.specs.Closure.{goes, AreBelow, count_below}
 use Rattle.reo_graph.specs.Laws.{ClosureDecides, RanksRise}
 
 -- a path and then a path

@@ -19,6 +19,10 @@ count_below test (suc n) = cond (test n) 1 0 + count_below test n
 abbrev pub rank : (ℕ → ℕ → Bool) → ℕ → ℕ → ℕ
 rank edge n vertex = count_below (λ i. goes edge n i vertex) n
 
--- whether the table has a mark in row i at place j
+-- whether a row has a mark at place j
+abbrev pub mark : List Bool → ℕ → Bool
+mark row j = slice_index_or row j false
+
+-- whether the table has one in row i at place j
 abbrev pub bit : List (List Bool) → ℕ → ℕ → Bool
-bit table i j = slice_index_or (slice_index_or table i []) j false
+bit table i j = mark (slice_index_or table i []) j

@@ -6,7 +6,6 @@ ghost use Rattle.reo_graph.specs.Edges.{following, IsLooped};
 
 use crate::closure::{closed, is_marked, row_at};
 use crate::walk::{ranks_of, rises};
-use sqlite_items::Items;
 use std::alloc::{AllocError, Global};
 
 /// The least vertex from which a path of these edges leads back to it, where there is one. Vertices may have any numbers.
@@ -22,30 +21,30 @@ pub fn least_on_loop(alloc: Global, edges: &[(u32, u32)]) -> Result<Option<u32>,
 }
 
 /// A table of the edges, with a mark where the one ends where the other begins.
-fn following_edges(alloc: Global, edges: &[(u32, u32)]) -> Result<Items<Items<bool>>, AllocError>
-    ensures { IfOk result (λ table. table ≡ following edges.now) }
+fn following_edges(alloc: Global, edges: &[(u32, u32)]) -> Result<Vec<Vec<bool>>, AllocError>
+    ensures { IfOk result (λ table. map (λ row. row.items) table.items ≡ following edges.now) }
 {
     let mut rows = Vec::with_capacity(alloc, edges.len())?;
     for edge in edges {
         rows.push(next_edges(alloc, edges, edge.1)?)?;
     }
-    Ok(Items::from_vec(rows))
+    Ok(rows)
 }
 
 /// A mark for each edge that begins at the vertex.
-fn next_edges(alloc: Global, edges: &[(u32, u32)], vertex: u32) -> Result<Items<bool>, AllocError>
-    ensures { IfOk result (λ row. row ≡ map (λ next. nat_eq vertex next.0) edges.now) }
+fn next_edges(alloc: Global, edges: &[(u32, u32)], vertex: u32) -> Result<Vec<bool>, AllocError>
+    ensures { IfOk result (λ row. row.items ≡ map (λ next. nat_eq vertex next.0) edges.now) }
 {
     let mut marks = Vec::with_capacity(alloc, edges.len())?;
     for next in edges {
         marks.push(vertex == next.0)?;
     }
-    Ok(Items::from_vec(marks))
+    Ok(marks)
 }
 
 /// The least begin of an edge that the table marks in its own row.
-fn least_looped(edges: &[(u32, u32)], table: &[Items<bool>]) -> Option<u32>
-    ensures { IsLeast (IsLooped edges.now table.now (length edges.now)) result }
+fn least_looped(edges: &[(u32, u32)], table: &[Vec<bool>]) -> Option<u32>
+    ensures { IsLeast (IsLooped edges.now (map (λ row. row.items) table.now) (length edges.now)) result }
 {
     let mut least = None;
     for (number, edge) in edges.iter().enumerate() {
@@ -56,8 +55,8 @@ fn least_looped(edges: &[(u32, u32)], table: &[Items<bool>]) -> Option<u32>
     least
 }
 
-fn is_looped(table: &[Items<bool>], number: usize) -> bool
-    ensures { result ≡ bit table.now number number }
+fn is_looped(table: &[Vec<bool>], number: usize) -> bool
+    ensures { result ≡ bit (map (λ row. row.items) table.now) number number }
 {
     is_marked(row_at(table, number), number)
 }

@@ -1,5 +1,5 @@
-use Rattle.std.proofs.Common.{sym, ap, ◌∙◌, ◌≡◌, ℕ, List, Bool}
-use Rattle.reo_graph.specs.Closure.{bit}
+use Rattle.std.proofs.Common.{◌≡◌, ◌||◌, ◌&&◌, [], Vec, Bool, Global, List, map, get_or, sym, ap, ◌∙◌}
+use Rattle.reo_graph.specs.Closure.{mark, bit}
 use Rattle.reo_graph.proofs.ClosureLemmas.{goes_zero, goes_next}
 use Rattle.reo_graph.proofs.closure.closed.Goals as goal
 
@@ -8,5 +8,9 @@ loop-via-init c = λ i j. sym (goes_zero _ i j)
 
 pub loop-via-preserved : goal.loop-via-preserved
 loop-via-preserved c =
-    let seen : (i j : ℕ) → bit c.as_slice.result.now i j ≡ bit c.loop-via.closure i j = λ i j. ap (λ (table : List (List Bool)). bit table i j) c.as_slice.ensures in
-    λ i j. c.in_ok-closure.ensures i j ∙ goes_next _ _ c.loop-via.via i j (λ k l. seen k l ∙ c.loop-via.invariant k l)
+    let table = map (λ (row : Vec Bool Global). row.items) c.loop-via.table.items in
+    let via = c.loop-via.via in
+    let middle : c.deref-in-loop-via.result.now ≡ get_or table via [] =
+    c.deref-in-loop-via.ensures.value ∙ (c.in_ok-middle.ensures.items ∙ (c.row_at.ensures ∙ ap (λ (rows : List (Vec Bool Global)). get_or (map (λ (row : Vec Bool Global). row.items) rows) via []) c.deref.ensures.value)) in
+    λ i j.
+    c.in_ok-go_through.ensures i j ∙ (ap (λ (row : List Bool). bit table i j || (bit table i via && mark row j)) middle ∙ goes_next _ _ via i j c.loop-via.invariant)
