@@ -102,6 +102,13 @@ impl<D: Decider + Drop> PlainEngine<D> {
         Some(number)
     }
 
+    /// What is in each cell.
+    pub fn cells(&self) -> &[Option<Value>]
+        ensures { result.now ≡ self.now.cells }
+    {
+        self.cells.as_slice()
+    }
+
     /// The last entry that was carried out.
     pub fn last(&self) -> Option<EntryRef<'_>>
         ensures { result ≡ self.now.last }
