@@ -10,7 +10,7 @@ use Rattle.reo_fabric.specs.declared.port_state.PortState.TheVariants.{Idle, Off
 use Rattle.reo_fabric.specs.Entry.{State, Agrees, at_place, carried_out}
 use Rattle.reo_fabric.specs.Decider.{IsChosen}
 use Rattle.reo_fabric.specs.Fabric.{first_state}
-use Rattle.reo_fabric.specs.Reading.{Offers, reading_of, IsReadingIn}
+use Rattle.reo_fabric.specs.Reading.{Offers, reading_of}
 
 pub record EngineState (D : Type 0) : Type 0 where
   pub fabric : Fabric
@@ -50,12 +50,6 @@ offers_of ports = map offer_of ports
 -- what the region reads
 abbrev pub engine_reading : {D : Type 0} → EngineState D → ℕ → Reading
 engine_reading engine region = reading_of engine.fabric region engine.cells (offers_of engine.ports)
-
--- a reading of the region's places, of no round and no clock
-pub record IsUnread (fabric : Fabric) (region : ℕ) (reading : Reading) : Type 0 where
-  pub of_region : IsReadingIn fabric region reading
-  pub no_round : reading.round ≡ 0
-  pub no_clock : reading.clock ≡ 0
 
 -- what is at a port after an entry of this number, by what it puts and gets there
 abbrev pub port_after : ℕ → Option Value → Option Value → PortState → PortState

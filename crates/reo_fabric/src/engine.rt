@@ -7,8 +7,9 @@ ghost use Rattle.reo_fabric.specs.Fabric.{IsLawfulFabric};
 ghost use Rattle.reo_value.specs.Code.{IsValue};
 ghost use Rattle.reo_fabric.specs.Decider.{Fits};
 ghost use Rattle.reo_fabric.specs.Laws.{AreValues};
-ghost use Rattle.reo_fabric.specs.Whole.{EachAt, IsRoomOf};
-ghost use Rattle.reo_fabric.specs.Engine.{IsUnread, started, engine_reading, Fires, answer_of, with_port, taken_answer};
+ghost use Rattle.reo_fabric.specs.inside.Whole.{EachAt, IsRoomOf};
+ghost use Rattle.reo_fabric.specs.Engine.{started, engine_reading, Fires, answer_of, with_port, taken_answer};
+ghost use Rattle.reo_fabric.specs.inside.Whole.{IsUnread};
 
 use crate::carry::carry_out;
 use crate::decider::Decider;
@@ -37,7 +38,7 @@ pub struct PlainEngine<D: Decider + Drop> {
 
 impl<D: Decider + Drop> Model for PlainEngine<D> {
     ghost use Rattle.reo_fabric.specs.Engine.{EngineState};
-    ghost use Rattle.reo_fabric.specs.Whole.{IsEngine, last_entry};
+    ghost use Rattle.reo_fabric.specs.inside.Whole.{IsEngine, last_entry};
 
     ghost Value = { EngineState D };
 

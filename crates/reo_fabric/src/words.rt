@@ -2,7 +2,8 @@
 ghost use Rattle.std.specs.Prelude.{◌≡◌, ℕ, ◌<◌, ◌^◌, ◌||◌, length, map, slice_index_or, nat_eq, None, IfOk};
 ghost use Rattle.reo_fabric.specs.declared.fabric.Fabric.{Fabric as AnyFabric};
 ghost use Rattle.reo_fabric.specs.Reading.{places_of, reading_of, cell_word, state_word, data_word};
-ghost use Rattle.reo_fabric.specs.Engine.{offers_of, IsUnread};
+ghost use Rattle.reo_fabric.specs.Engine.{offers_of};
+ghost use Rattle.reo_fabric.specs.inside.Whole.{IsUnread};
 
 use crate::fabric::{CellSpec, Fabric, PortSpec};
 use crate::port_state::PortState;
