@@ -1,13 +1,12 @@
 -- The plain engine: its state, and what its calls make of it.
-use Rattle.std.specs.Prelude.{◌≡◌, ℕ, ◌+◌, List, length, map, slice_index_or, slice_set, Option, Some, None}
-use Rattle.std.specs.List.{range_with_len}
+use Rattle.std.specs.Prelude.{◌≡◌, ℕ, ◌+◌, List, map, slice_index_or, slice_set, Option, Some, None}
 use Rattle.reo_value.specs.declared.value.Value.{Value}
 use Rattle.reo_fabric.specs.declared.entry.Entry.{Entry}
 use Rattle.reo_fabric.specs.declared.fabric.Fabric.{Fabric}
 use Rattle.reo_fabric.specs.declared.reading.Reading.{Reading}
 use Rattle.reo_fabric.specs.declared.port_state.PortState.{PortState}
 use Rattle.reo_fabric.specs.declared.port_state.PortState.TheVariants.{Idle, Offered, Answered}
-use Rattle.reo_fabric.specs.Entry.{State, Agrees, at_place, carried_out}
+use Rattle.reo_fabric.specs.Entry.{State, Agrees, at_place, at_each_place, carried_out}
 use Rattle.reo_fabric.specs.Decider.{IsChosen}
 use Rattle.reo_fabric.specs.Fabric.{first_state}
 use Rattle.reo_fabric.specs.Reading.{Offers, reading_of}
@@ -31,6 +30,10 @@ started fabric decider = record {
   count = 0;
   last = None;
 }
+
+-- what is at a port
+abbrev pub port_at : List PortState → ℕ → PortState
+port_at ports port = slice_index_or ports port Idle
 
 -- the offer at a port
 abbrev pub offer_of : PortState → Option (Option Value)
@@ -60,7 +63,7 @@ port_after number None None state = state
 -- the ports after an entry of this number: where it puts or gets they are answered
 abbrev pub answered : List PortState → ℕ → Entry → List PortState
 answered ports number entry =
-    map (λ port. port_after number (at_place entry.puts port) (at_place entry.gets port) (slice_index_or ports port Idle)) (range_with_len 0 (length ports))
+    at_each_place (λ port. port_after number (at_place entry.puts port) (at_place entry.gets port) (port_at ports port)) ports
 
 -- the engine after this entry
 abbrev pub after_entry : {D : Type 0} → EngineState D → Entry → EngineState D
@@ -91,4 +94,4 @@ without_answer engine port (Offered value) = engine
 without_answer engine port (Answered value number) = with_port engine port Idle
 
 abbrev pub taken_answer : {D : Type 0} → EngineState D → ℕ → EngineState D
-taken_answer engine port = without_answer engine port (slice_index_or engine.ports port Idle)
+taken_answer engine port = without_answer engine port (port_at engine.ports port)

@@ -1,11 +1,11 @@
 -- What fitting entries are to the state that was read, and what entries do one after the other and to each cell.
-use Rattle.std.specs.Prelude.{◌≡◌, ℕ, ◌<◌, List, [], ◌∷◌, ◌++◌, length, slice_get, slice_index_or, All, Some, None, IfSome}
+use Rattle.std.specs.Prelude.{◌≡◌, ℕ, ◌<◌, List, [], ◌∷◌, ◌++◌, length, slice_get, All, Some, None, IfSome}
 use Rattle.reo_value.specs.declared.value.Value.{Value}
 use Rattle.reo_value.specs.Code.{IsValue}
 use Rattle.reo_fabric.specs.declared.entry.Entry.{Entry}
 use Rattle.reo_fabric.specs.declared.fabric.Fabric.{Fabric}
 use Rattle.reo_fabric.specs.declared.reading.Reading.{Reading}
-use Rattle.reo_fabric.specs.Entry.{State, Agrees, at_place, content_after, carried_out}
+use Rattle.reo_fabric.specs.Entry.{State, Agrees, at_place, content_at, content_after, carried_out}
 use Rattle.reo_fabric.specs.History.{state_after, IsLawfulHistory}
 use Rattle.reo_fabric.specs.Reading.{Offers, reading_of}
 use Rattle.reo_fabric.specs.Decider.{IsFitting}
@@ -35,7 +35,7 @@ HistoriesGrow =
 pub record ActsOn (state : State) (entry : Entry) (cell : ℕ) : Type 0 where
   pub taken : (value : Value) → at_place entry.takes cell ≡ Some value → slice_get state cell ≡ Some (Some value)
   pub filled : (value : Value) → at_place entry.fills cell ≡ Some value → slice_get state cell ≡ Some None
-  pub after : cell < length state → slice_get (carried_out state entry) cell ≡ Some (content_after (at_place entry.takes cell) (at_place entry.fills cell) (slice_index_or state cell None))
+  pub after : cell < length state → slice_get (carried_out state entry) cell ≡ Some (content_after (at_place entry.takes cell) (at_place entry.fills cell) (content_at state cell))
 
 abbrev pub ActCellByCell : Type 0
 ActCellByCell = (state : State) (entry : Entry) (cell : ℕ) → Agrees state entry → ActsOn state entry cell
