@@ -12,6 +12,8 @@ use std::io::ErrorKind;
 use std::process::ExitCode;
 
 #[cfg(test)]
+mod cuts;
+#[cfg(test)]
 mod each_call;
 #[cfg(test)]
 mod graphs;
