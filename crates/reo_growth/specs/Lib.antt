@@ -1,0 +1,4 @@
+pub mod Lists
+pub mod Web
+pub mod Growth
+pub mod Laws

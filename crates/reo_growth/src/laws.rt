@@ -1,0 +1,14 @@
+//! Laws about the definitions, each a function that does nothing.
+ghost use Rattle.reo_growth.specs.Laws.{GrowsAll, GrowsOnly, GrowsOnce, AgreesAsOne};
+
+/// The vertices at which no automaton is open are the connected firings, each once.
+pub fn connected_firings_are_grown()
+    ensures all { GrowsAll }
+    ensures only { GrowsOnly }
+    ensures once { GrowsOnce }
+{}
+
+/// In a vertex, a link agrees with every automaton exactly where it agrees with all of them as one.
+pub fn agreement_is_of_the_whole()
+    ensures { AgreesAsOne }
+{}

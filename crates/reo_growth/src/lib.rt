@@ -1,0 +1,9 @@
+//! The firings of a region that hang together, grown automaton by automaton. Nothing here knows of circuits: a region is a
+//! web of automata that share names.
+#![tactic(auto)]
+
+mod laws;
+mod web;
+
+pub use laws::{agreement_is_of_the_whole, connected_firings_are_grown};
+pub use web::{Automaton, Web};
