@@ -4,3 +4,4 @@ pub mod SoundLemmas
 pub mod InsideLemmas
 pub mod OnceLemmas
 pub mod AgreeLemmas
+pub mod MarkLemmas

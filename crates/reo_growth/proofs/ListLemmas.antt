@@ -1,5 +1,5 @@
 -- Membership, tests, and lists of which at most one place has a property.
-use Rattle.std.proofs.Common.{◌≡◌, ℕ, zero, suc, ◌+◌, ◌<◌, ◌≤◌, ◌⊎◌, inl, inr, ⊎_elim, List, [], ◌∷◌, ◌++◌, length, map, Bool, true, false, not, cond, ◌&&◌, ◌||◌, Option, Some, None, refl, sym, ◌∙◌, ap, subst, arith}
+use Rattle.std.proofs.Common.{◌≡◌, ℕ, zero, suc, ◌+◌, ◌<◌, ◌≤◌, ◌⊎◌, inl, inr, ⊎_elim, List, [], ◌∷◌, ◌++◌, length, map, Bool, true, false, not, cond, ◌&&◌, ◌||◌, Option, Some, None, get_or, refl, sym, ◌∙◌, ap, subst, arith}
 use Rattle.std.specs.Prelude.{nat_eq, filter, flat_map}
 use Rattle.std.specs.List.{list_any, list_all, find, range_with_len}
 use Rattle.std.proofs.lemmas.Bool.{false≢true, true≢false, and_parts, and_from, or_cases, or_from, or_left, or_right, or_parts, eqb-true, eq-eqb, cases_Bool}
@@ -168,3 +168,8 @@ module _ {A : Type 0} (P : A → Type 0) where
   once_flat_map {B} f (x ∷ xs) each apart =
       once_append (f x) (flat_map f xs) (each x (inl refl)) (once_flat_map f xs (λ y later. each y (inr later)) apart.1)
       (λ a b at_a at_b holds_a holds_b. let r = flat_map_gives f xs b at_b in apart.0 r.0 a b r.1 at_a r.2 holds_a holds_b)
+
+pub among_at : {A : Type 0} (xs : List A) (k : ℕ) (d : A) → k < length xs → Among (get_or xs k d) xs
+among_at [] k d h = absurd (omega arith)
+among_at (x ∷ xs) zero d h = inl refl
+among_at (x ∷ xs) (suc k) d h = inr (among_at xs k d (omega arith))

@@ -2,3 +2,5 @@ pub mod Lists
 pub mod Web
 pub mod Growth
 pub mod Laws
+pub mod Marks
+pub mod Ground

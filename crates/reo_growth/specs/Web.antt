@@ -1,6 +1,6 @@
 -- A web: the automata of a region, each known by its place, with the names that they share; and the sets of names that
 -- fire at once in it.
-use Rattle.std.specs.Prelude.{◌≡◌, ◌≢◌, ℕ, ◌<◌, List, [], ◌∷◌, length, slice_get, Bool, true}
+use Rattle.std.specs.Prelude.{◌≡◌, ◌≢◌, ℕ, ◌<◌, List, [], ◌∷◌, length, slice_get, Bool, true, All}
 use Rattle.std.specs.Option.{option_map_or}
 use Rattle.reo_growth.specs.declared.web.Automaton.{Automaton}
 use Rattle.reo_growth.specs.declared.web.Web.{Web}
@@ -32,8 +32,9 @@ pub record IsWeb (w : Web) : Type 0 where
   pub some : (x : ℕ) (link : List ℕ) → Among link (links_of w x) → (name : ℕ) × (has link name ≡ true)
   -- no two links of an automaton fire the same
   pub apart : (x : ℕ) → AreApart (links_of w x)
-  -- all names are below the bound
+  -- all names, and the ends of each FIFO1, are below the bound
   pub below : (x name : ℕ) → has (names_of w x) name ≡ true → name < w.names
+  pub ends : All (λ cell. (cell.0 < w.names) × (cell.1 < w.names)) w.cells
 
 -- a name of the automaton is in the set
 pub record Moves (w : Web) (F : ℕ → Bool) (x : ℕ) : Type 0 where

@@ -2,7 +2,9 @@
 //! web of automata that share names.
 #![tactic(auto)]
 
+mod ground;
 mod laws;
+mod marks;
 mod web;
 
 pub use laws::{agreement_is_of_the_whole, connected_firings_are_grown};
