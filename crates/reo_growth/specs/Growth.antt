@@ -92,3 +92,11 @@ growth_count w = length (vertices w)
 -- no automaton is open
 unfoldable pub is_complete : Web → Vertex → Bool
 is_complete w v = not (is_some (least_open w v))
+
+-- the names that fire in a list, rising
+unfoldable pub firing_names : Web → Vertex → List ℕ
+firing_names w v = filter (fired v) (range_with_len 0 w.names)
+
+-- the lists of these in which no automaton is open
+abbrev pub complete_ones : Web → List Vertex → List Vertex
+complete_ones w list = filter (is_complete w) list

@@ -4,3 +4,4 @@ pub mod Growth
 pub mod Laws
 pub mod Marks
 pub mod Ground
+pub mod Found

@@ -2,6 +2,7 @@
 //! web of automata that share names.
 #![tactic(auto)]
 
+mod found;
 mod ground;
 mod laws;
 mod marks;

@@ -22,6 +22,12 @@ pub enum Mark {
     Fires,
 }
 
+pub fn fires(mark: Mark) -> bool
+    ensures { result ≡ is_fires mark }
+{
+    matches!(mark, Mark::Fires)
+}
+
 /// The least automaton that is open.
 pub fn first_open(automata: &[Mark]) -> Option<usize>
     ensures { result ≡ position is_open_mark automata.now }
@@ -101,7 +107,7 @@ pub fn fits(marks: &[Mark], cells: &[(u32, u32)]) -> bool
     ensures { result ≡ list_all (λ cell. not (is_fires (slice_index_or marks.now cell.0 Mark.Unknown) && is_fires (slice_index_or marks.now cell.1 Mark.Unknown))) cells.now }
 {
     for (a, b) in cells {
-        if matches!(marks[*a as usize], Mark::Fires) && matches!(marks[*b as usize], Mark::Fires) {
+        if fires(marks[*a as usize]) && fires(marks[*b as usize]) {
             return false;
         }
     }
