@@ -8,7 +8,8 @@ use Rattle.reo_growth.specs.Growth.{Move, Vertex, fired, places, known, same, ag
 use Rattle.reo_growth.specs.Laws.{AgreesAsOne}
 use Rattle.reo_growth.proofs.ListLemmas.{same_tests, any_from, any_gives, all_gives, all_from, flat_map_gives, has_among, among_has}
 use Rattle.reo_growth.proofs.VertexLemmas.{implied, implies, same_from, same_gives, agrees_gives, agrees_from}
-use Rattle.reo_growth.proofs.SoundLemmas.{IsSound, fires_as, sound_of_root}
+use Rattle.reo_growth.specs.Sound.{IsSound}
+use Rattle.reo_growth.proofs.SoundLemmas.{fires_as, sound_of_root}
 
 pub known_from : (w : Web) (v : Vertex) (move : Move) (name : ℕ) → Among move v → has (names_of w move.automaton) name ≡ true → known w v name ≡ true
 unfolding known

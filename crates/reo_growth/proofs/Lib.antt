@@ -5,3 +5,6 @@ pub mod InsideLemmas
 pub mod OnceLemmas
 pub mod AgreeLemmas
 pub mod MarkLemmas
+pub mod WentLemmas
+pub mod ReadLemmas
+pub mod EngineLemmas

@@ -1,5 +1,5 @@
 -- Membership, tests, and lists of which at most one place has a property.
-use Rattle.std.proofs.Common.{◌≡◌, ℕ, zero, suc, ◌+◌, ◌<◌, ◌≤◌, ◌⊎◌, inl, inr, ⊎_elim, List, [], ◌∷◌, ◌++◌, length, map, Bool, true, false, not, cond, ◌&&◌, ◌||◌, Option, Some, None, get_or, add-one, add-zero, zero-add, refl, sym, ◌∙◌, ap, subst, arith}
+use Rattle.std.proofs.Common.{◌≡◌, ℕ, zero, suc, ◌+◌, ◌<◌, ◌≤◌, ◌⊎◌, inl, inr, ⊎_elim, List, [], ◌∷◌, ◌++◌, length, map, Bool, true, false, not, cond, ◌&&◌, ◌||◌, Option, Some, None, All, get_or, add-one, add-zero, zero-add, refl, sym, ◌∙◌, ap, subst, arith}
 use Rattle.std.specs.Prelude.{nat_eq, filter, flat_map}
 use Rattle.std.specs.List.{list_any, list_all, find, range_with_len}
 use Rattle.std.proofs.lemmas.Bool.{false≢true, true≢false, and_parts, and_from, or_cases, or_from, or_left, or_right, or_parts, eqb-true, eq-eqb, cases_Bool}
@@ -183,3 +183,11 @@ pub filter-range_more : (p : ℕ → Bool) (n : ℕ) → filter p (range_with_le
 filter-range_more p n =
     ap (λ k. filter p (range_with_len 0 k)) (add-one n) ∙ ap (filter p) (range_more 0 n) ∙ filter-append p (range_with_len 0 n) ((0 + n) ∷ [])
     ∙ ap (λ k. filter p (range_with_len 0 n) ++ cond (p k) (k ∷ []) []) (zero-add n)
+
+pub among_place : {A : Type 0} (xs : List A) (x : A) → Among x xs → (k : ℕ) × (k < length xs) × ((d : A) → get_or xs k d ≡ x)
+among_place [] x h = elim h [ ]
+among_place (y ∷ ys) x (inl is) = (0, omega arith, λ d. is)
+among_place (y ∷ ys) x (inr later) = let r = among_place ys x later in (suc r.0, omega (arith, r.1), r.2)
+
+pub all_among : {A : Type 0} (P : A → Type 0) (xs : List A) → All P xs → (x : A) → Among x xs → P x
+all_among P xs all x at = let r = among_place xs x at in subst P (r.2 x) (all r.0 x r.1)

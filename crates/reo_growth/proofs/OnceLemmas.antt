@@ -10,7 +10,8 @@ use Rattle.reo_growth.specs.Growth.{Move, Vertex, fired, is_listed, places, leas
 use Rattle.reo_growth.specs.Laws.{StandsFor, GrowsOnce}
 use Rattle.reo_growth.proofs.ListLemmas.{among_map, map_gives, filter_gives, flat_map_gives, range_gives, once_flat_map, AreSeparate}
 use Rattle.reo_growth.proofs.VertexLemmas.{fired_from, listed_gives, complete_lists, IsExtended, extended_gives}
-use Rattle.reo_growth.proofs.SoundLemmas.{IsSound, fires_as, sound_first, sound_child, sound_grown, sound_of_root}
+use Rattle.reo_growth.specs.Sound.{IsSound}
+use Rattle.reo_growth.proofs.SoundLemmas.{fires_as, sound_first, sound_child, sound_grown, sound_of_root}
 
 -- an element of a set of names, where two of them differ, is not outside the one only
 differ_absurd : (a b c d : Bool) → a ≢ b → c ≡ a → d ≡ b → c ≡ d → ⊥

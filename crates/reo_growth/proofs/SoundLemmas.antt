@@ -7,18 +7,9 @@ use Rattle.reo_growth.specs.Lists.{has, Among}
 use Rattle.reo_growth.specs.Web.{names_of, links_of, IsWeb, Moves, FiresAs, Together, here, joined, IsConnected}
 use Rattle.reo_growth.specs.Growth.{Move, Vertex, fired, is_listed, is_open, places, least_open, agrees, fits, with_link, extended, children_at, grown, vertices_of, vertices, is_complete}
 use Rattle.reo_growth.specs.Laws.{GrowsOnly}
+use Rattle.reo_growth.specs.Sound.{IsSound}
 use Rattle.reo_growth.proofs.ListLemmas.{same_tests, any_from, any_gives, flat_map_gives}
 use Rattle.reo_growth.proofs.VertexLemmas.{fired_from, fired_gives, listed_from, listed_gives, open_gives, least_gives, complete_lists, agrees_gives, fits_gives, IsExtended, extended_gives}
-
-pub record IsSound (w : Web) (root : ℕ) (v : Vertex) : Type 0 where
-  -- each move is by a link of its automaton, which is not less than the root
-  pub its : (move : Move) → Among move v → Among move.fires (links_of w move.automaton)
-  pub above : (move : Move) → Among move v → root ≤ move.automaton
-  pub root_is : is_listed v root ≡ true
-  -- two moves agree on each name that both automata have
-  pub agree : (one other : Move) (name : ℕ) → Among one v → Among other v → has (names_of w one.automaton) name ≡ true → has (names_of w other.automaton) name ≡ true → has one.fires name ≡ has other.fires name
-  pub fit : fits w v ≡ true
-  pub hangs : (move : Move) → Among move v → Together w (fired v) root move.automaton
 
 module _ (w : Web) where
   -- what hangs together in a set does so in a wider one

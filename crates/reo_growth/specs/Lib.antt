@@ -5,3 +5,4 @@ pub mod Laws
 pub mod Marks
 pub mod Ground
 pub mod Found
+pub mod Sound

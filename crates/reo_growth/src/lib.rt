@@ -2,6 +2,7 @@
 //! web of automata that share names.
 #![tactic(auto)]
 
+mod engine;
 mod found;
 mod ground;
 mod laws;
