@@ -8,3 +8,4 @@ pub mod MarkLemmas
 pub mod WentLemmas
 pub mod ReadLemmas
 pub mod EngineLemmas
+pub mod TableLemmas

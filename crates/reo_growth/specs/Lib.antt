@@ -6,3 +6,5 @@ pub mod Marks
 pub mod Ground
 pub mod Found
 pub mod Sound
+pub mod Table
+pub mod Search

@@ -7,7 +7,9 @@ mod found;
 mod ground;
 mod laws;
 mod marks;
+mod table;
 mod web;
 
 pub use laws::{agreement_is_of_the_whole, connected_firings_are_grown};
+pub use table::{Table, TableRefusal};
 pub use web::{Automaton, Web};
