@@ -1,9 +1,9 @@
 -- The steps of the search, over plain lists.
-use Rattle.std.proofs.Common.{◌≡◌, ℕ, ◌+◌, ◌-◌, ◌<◌, ◌≤◌, List, [], ◌∷◌, ◌++◌, length, map, take, drop, get_or, Bool, true, false, not, ◌&&◌, Option, Some, None, is_some, Result, Ok, Err, IfOk, refl, sym, ◌∙◌, ap, subst, arith, cond, ◌⊎◌, inl, inr, append-nil}
+use Rattle.std.proofs.Common.{◌≡◌, ℕ, ◌+◌, ◌-◌, ◌<◌, ◌≤◌, List, [], ◌∷◌, ◌++◌, length, map, take, drop, get_or, Bool, true, false, not, ◌&&◌, ◌||◌, Option, Some, None, is_some, Result, Ok, Err, IfOk, refl, sym, ◌∙◌, ap, subst, arith, cond, ◌⊎◌, inl, inr, append-nil}
 use Rattle.std.specs.Prelude.{position, flat_map}
 use Rattle.std.specs.declared.alloc.AllocError.{AllocError}
 use Rattle.std.specs.List.{list_all}
-use Rattle.std.proofs.lemmas.Bool.{and_from, le-ltb}
+use Rattle.std.proofs.lemmas.Bool.{false≢true, and_from, le-ltb}
 use Rattle.std.proofs.lemmas.List.{take_all}
 use Rattle.reo_growth.specs.declared.found.Found.{Found}
 use Rattle.reo_growth.specs.declared.marks.Mark.{Mark}
@@ -11,7 +11,7 @@ use Rattle.reo_growth.specs.declared.marks.Mark.TheVariants.{Unknown}
 use Rattle.reo_growth.specs.declared.web.Web.{Web}
 use Rattle.reo_growth.specs.Lists.{has, Among}
 use Rattle.reo_growth.specs.Web.{names_of, links_of, IsWeb}
-use Rattle.reo_growth.specs.Growth.{Vertex, fired, known, agrees, agrees_as_one, fits, least_open, with_link, extended, children_at, grown, is_complete}
+use Rattle.reo_growth.specs.Growth.{Vertex, fired, known, same, agrees, agrees_as_one, fits, least_open, with_link, extended, children_at, grown, is_complete}
 use Rattle.reo_growth.specs.Marks.{allows, is_open_mark, is_fires, marks_of, automaton_marks, name_marks}
 use Rattle.reo_growth.specs.Found.{rows_of, ranked, fired_places, row_of_vertex, WentOver, Went}
 use Rattle.reo_growth.specs.Sound.{IsSound, IsReady, widened}
@@ -106,3 +106,16 @@ pub fits_said : (w : Web) → IsWeb w → (v : Vertex) (marks : List Mark) (cell
     → said ≡ list_all (λ cell. not (is_fires (get_or marks cell.0 Unknown) && is_fires (get_or marks cell.1 Unknown))) cells → fits w v ≡ said
 fits_said w is_web v marks cells said is are told =
     sym (fits_read w v marks is is_web) ∙ ap (list_all (λ cell. not (is_fires (get_or marks cell.0 Unknown) && is_fires (get_or marks cell.1 Unknown)))) (sym are) ∙ sym told
+
+-- an automaton that begins a list makes it sound
+pub ready_none : (w : Web) → IsWeb w → (root : ℕ) → IsReady w root [] root
+unfolding agrees agrees_as_one fired known
+ready_none w is_web root = record {
+  children = λ u at. sound_first w is_web root u at;
+  agree = λ link. sym (none_known (names_of w root) link);
+  knows = λ name fires. absurd (false≢true fires);
+}
+  where
+    none_known : (names link : List ℕ) → list_all (λ name. not (known w [] name) || same (has link name) (fired [] name)) names ≡ true
+    none_known [] link = refl
+    none_known (x ∷ xs) link = none_known xs link

@@ -9,3 +9,6 @@ pub mod WentLemmas
 pub mod ReadLemmas
 pub mod EngineLemmas
 pub mod TableLemmas
+pub mod SearchLemmas
+pub mod SortLemmas
+pub mod FiringLemmas

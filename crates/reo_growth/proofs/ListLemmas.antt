@@ -191,3 +191,9 @@ among_place (y ∷ ys) x (inr later) = let r = among_place ys x later in (suc r.
 
 pub all_among : {A : Type 0} (P : A → Type 0) (xs : List A) → All P xs → (x : A) → Among x xs → P x
 all_among P xs all x at = let r = among_place xs x at in subst P (r.2 x) (all r.0 x r.1)
+
+pub range_split : (a k m : ℕ) → range_with_len a (k + m) ≡ range_with_len a k ++ range_with_len (a + k) m
+range_split a zero m = ap (λ n. range_with_len a n) (zero-add m) ∙ ap (λ b. range_with_len b m) (sym (add-zero a))
+range_split a (suc k) m =
+    ap (λ n. range_with_len a n) (let e : suc k + m ≡ suc (k + m) = omega arith in e)
+    ∙ ap (λ xs. a ∷ xs) (range_split (a + 1) k m ∙ ap (λ b. range_with_len (a + 1) k ++ range_with_len b m) (let e : a + 1 + k ≡ a + suc k = omega arith in e))

@@ -1,5 +1,5 @@
 -- The marks of a list that an automaton enters.
-use Rattle.std.proofs.Common.{◌≡◌, ℕ, ◌+◌, ◌<◌, ◌⊎◌, inl, inr, List, [], ◌∷◌, ◌++◌, length, map, take, drop, All, get_or, Bool, true, false, not, cond, ◌||◌, ◌&&◌, Option, Some, None, slice_get, refl, sym, ◌∙◌, ap, subst, arith, get_or-set_other, get_or-set_same, zero-add}
+use Rattle.std.proofs.Common.{◌≡◌, ℕ, ◌+◌, ◌<◌, ◌⊎◌, inl, inr, List, [], ◌∷◌, ◌++◌, length, map, take, drop, All, get_or, Bool, true, false, not, cond, ◌||◌, ◌&&◌, Option, Some, None, slice_get, refl, sym, ◌∙◌, ap, subst, arith, get_or-set_other, get_or-set_same, zero-add, length-append}
 use Rattle.std.specs.Prelude.{nat_eq}
 use Rattle.std.specs.List.{list_any, range_with_len}
 use Rattle.std.proofs.Math.ListN.{set, length-set}
@@ -188,3 +188,7 @@ entered w is_web holders right v x link its below marks front back known fires o
     let first = automata_entered w v x link is_web holders right its front opens (at_front ∙ front_of w v marks is) below open_all in
     let second = names_entered w v x link back known fires (at_back ∙ back_of w v marks is) knows fire in
     ap (λ xs. xs ++ fires) first ∙ ap (λ ys. automaton_marks w (with_link v x link) ++ ys) second
+
+pub length-marks_of : (w : Web) (v : Vertex) → length (marks_of w v) ≡ length w.automata + w.names
+unfolding marks_of
+length-marks_of w v = length-append (automaton_marks w v) (name_marks w v) ∙ ap (λ n. n + length (name_marks w v)) (length-automaton_marks w v) ∙ ap (λ n. length w.automata + n) (length-name_marks w v)

@@ -1,6 +1,6 @@
 -- A web: the automata of a region, each known by its place, with the names that they share; and the sets of names that
 -- fire at once in it.
-use Rattle.std.specs.Prelude.{◌≡◌, ◌≢◌, ℕ, ◌<◌, List, [], ◌∷◌, length, slice_get, Bool, true, All}
+use Rattle.std.specs.Prelude.{◌≡◌, ◌≢◌, ℕ, ◌<◌, ◌^◌, List, [], ◌∷◌, length, slice_get, Bool, true, All}
 use Rattle.std.specs.Option.{option_map_or}
 use Rattle.reo_growth.specs.declared.web.Automaton.{Automaton}
 use Rattle.reo_growth.specs.declared.web.Web.{Web}
@@ -35,6 +35,10 @@ pub record IsWeb (w : Web) : Type 0 where
   -- all names, and the ends of each FIFO1, are below the bound
   pub below : (x name : ℕ) → has (names_of w x) name ≡ true → name < w.names
   pub ends : All (λ cell. (cell.0 < w.names) × (cell.1 < w.names)) w.cells
+
+-- neither automata nor names are more than can be counted
+abbrev pub AreFew : Web → Type 0
+AreFew w = (length w.automata < 2 ^ 26) × (w.names < 2 ^ 26)
 
 -- a name of the automaton is in the set
 pub record Moves (w : Web) (F : ℕ → Bool) (x : ℕ) : Type 0 where

@@ -11,5 +11,5 @@ mod table;
 mod web;
 
 pub use laws::{agreement_is_of_the_whole, connected_firings_are_grown};
-pub use table::{Table, TableRefusal};
+pub use table::{Table, TableRefusal, table_of};
 pub use web::{Automaton, Web};
