@@ -1,5 +1,5 @@
 //! Public calls below the top one, with values worked by hand.
-use reo_base::{MemorySink, StdSink, StdSource, read_all, write_whole};
+use reo_base::{Gate, MemorySink, OpenGate, StdSink, StdSource, read_all, write_whole};
 use reo_net::{Step, channel_allows, datum_at, is_step, node_allows};
 use reo_text::read_document;
 use reo_tool::checked;
@@ -41,6 +41,8 @@ fn a_lexicon_numbers_its_texts(rt: HostRuntime) {
         .expect(&rt, "ample memory");
     assert_eq!(rt; lexicon.add(alloc, &long), Err(LexRefusal::TooLong));
     assert_eq!(rt; lexicon.len(), 2);
+    assert_eq!(rt; lexicon.add(alloc, ""), Ok(2));
+    assert_eq!(rt; lexicon.text(2), Some(""));
 }
 
 #[test]
@@ -51,6 +53,23 @@ fn bytes_pass_through_the_standard_streams(rt: HostRuntime) {
     assert_eq!(rt; bytes.as_slice(), "in A\n".as_bytes());
     let mut sink = StdSink::new(Vec::new(alloc));
     assert_eq!(rt; write_whole(&mut sink, bytes.as_slice()), Ok(()));
+}
+
+#[test]
+fn many_bytes_pass_through_the_standard_streams(rt: HostRuntime) {
+    let alloc = rt.alloc();
+    let text = "0123456789".repeat(alloc, 900).expect(&rt, "ample memory");
+    let mut source = StdSource::new(Cursor::new(text.as_bytes()));
+    let bytes = read_all(alloc, &mut source, 9000).expect(&rt, "ample memory");
+    let mut written = Vec::new(alloc);
+    let mut sink = StdSink::new(&mut written);
+    assert_eq!(rt; write_whole(&mut sink, bytes.as_slice()), Ok(()));
+    assert_eq!(rt; written.as_slice(), text.as_bytes());
+}
+
+#[test]
+fn an_open_gate_holds_nobody(_rt: HostRuntime) {
+    OpenGate.pass(0, 0);
 }
 
 #[test]

@@ -14,6 +14,8 @@ use std::process::ExitCode;
 #[cfg(test)]
 mod each_call;
 #[cfg(test)]
+mod graphs;
+#[cfg(test)]
 mod guards;
 #[cfg(test)]
 mod product_steps;

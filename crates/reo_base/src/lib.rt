@@ -1,7 +1,8 @@
-//! Byte sources and sinks whose faults are counted, and whole reads and writes over them.
+//! Byte sources and sinks whose faults are counted, whole reads and writes over them, and gates for workers.
 #![tactic(auto)]
 
 mod failed;
+mod gate;
 mod memory_sink;
 mod memory_source;
 mod sink;
@@ -12,6 +13,7 @@ mod whole_read;
 mod whole_write;
 
 pub use failed::Failed;
+pub use gate::{Gate, OpenGate};
 pub use memory_sink::MemorySink;
 pub use memory_source::MemorySource;
 pub use sink::Sink;

@@ -1,4 +1,7 @@
-ghost use Rattle.std.specs.Prelude.{◌≡◌};
+ghost use Rattle.std.specs.Prelude.{◌≡◌, length};
+ghost use Rattle.std.specs.Io.KnownBytes.{WriteAppends};
+ghost use Rattle.reo_base.specs.Faults.{HasCause, CountsFault};
+ghost use Rattle.reo_base.specs.Streams.{TakesSome};
 
 use crate::{Failed, Sink};
 use std::io::Write;
@@ -34,7 +37,13 @@ impl<W: Write> Sink for StdSink<W> {
     ghost faults = { λ s. s.faults };
 
     /// Where the writer takes nothing of a nonempty `buf`, that is a fault too.
-    fn write(&mut self, buf: &[u8]) -> Result<usize, Failed> {
+    fn write(&mut self, buf: &[u8]) -> Result<usize, Failed>
+        ensures some { TakesSome result buf.now }
+        ensures bytes { WriteAppends (W.contents self.old.inner) (W.contents self.new.inner) result buf.now }
+        ensures nothing { length buf.now ≡ 0 → result ≡ Ok 0 }
+        ensures cause { HasCause self.old.faults self.new.faults result }
+        ensures count { CountsFault self.old.faults self.new.faults result }
+    {
         if buf.is_empty() {
             return Ok(0);
         }

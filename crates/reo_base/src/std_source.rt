@@ -1,4 +1,9 @@
 ghost use Rattle.std.specs.Prelude.{◌≡◌};
+ghost use Rattle.std.specs.declared.option.Option.TheVariants.{None};
+ghost use Rattle.std.specs.Io.{ReadsAtMost};
+ghost use Rattle.std.specs.Io.KnownBytes.{ReadConsumes};
+ghost use Rattle.reo_base.specs.Faults.{HasCause, CountsFault};
+ghost use Rattle.reo_base.specs.Streams.{CountsOne};
 
 use crate::{Failed, Source};
 use std::io::Read;
@@ -33,7 +38,13 @@ impl<R: Read> Source for StdSource<R> {
 
     ghost faults = { λ s. s.faults };
 
-    fn read(&mut self, buf: &mut [u8]) -> Result<usize, Failed> {
+    fn read(&mut self, buf: &mut [u8]) -> Result<usize, Failed>
+        ensures bound { ReadsAtMost result buf.new }
+        ensures bytes { ReadConsumes (R.remaining self.old.inner) (R.remaining self.new.inner) result buf.new }
+        ensures cause { HasCause self.old.faults self.new.faults result }
+        ensures counted { CountsOne None None }
+        ensures count { CountsFault self.old.faults self.new.faults result }
+    {
         match self.inner.read(buf) {
             Ok(count) => Ok(count),
             Err(_) => {

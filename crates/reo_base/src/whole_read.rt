@@ -56,7 +56,9 @@ pub fn read_all<S: Source>(
     ensures untaken { (IsErrOf result ReadRefusal.TooLong → ⊥) → LosesAtMost (S.left source.old) (S.left source.new) max }
 
     ensures calls { RisesAtMost (S.reads source.old) (S.reads source.new) (max + 1) }
+    // The count of faults: it never falls, and only a fault raises it.
     ensures later { S.faults source.old ≤ S.faults source.new }
+    ensures kept { (IsErrOf result ReadRefusal.Fault → ⊥) → S.faults source.new ≡ S.faults source.old }
 {
     let mut buffer = [0; PIECE];
     let mut bytes = Vec::new(alloc);

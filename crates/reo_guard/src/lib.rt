@@ -3,8 +3,7 @@
 
 mod fun;
 mod guard;
-mod laws;
+pub mod laws;
 
 pub use fun::{Fun, apply};
 pub use guard::{Cmp, Guard, holds};
-pub use laws::guards_hold_by_parts;

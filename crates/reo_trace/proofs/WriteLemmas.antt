@@ -47,10 +47,11 @@ pub HasCause-after : {S T E F : Type 0} (a b c : ℕ) (e : E) (f : F) → a ≤ 
 HasCause-after a b c e f before now = record {
   later = omega (arith, now.later);
   failed = omega (arith, now.failed);
+  kept = tt;
 }
 
-pub HasCause-ok : {T E : Type 0} (a b : ℕ) (done : T) → a ≤ b → HasCause {E = E} a b (Ok done)
-HasCause-ok a b done before = record { later = before; failed = tt }
+pub HasCause-ok : {T E : Type 0} (a b : ℕ) (done : T) → b ≡ a → HasCause {E = E} a b (Ok done)
+HasCause-ok a b done kept = record { later = omega arith; failed = tt; kept = kept }
 
 pub IsPart-along : (a b : Option (List ℕ)) (w : ℕ) (x y : List ℕ) → x ≡ y → IsPart a b w x → IsPart a b w y
 IsPart-along a b w x y same p = subst (λ l. IsPart a b w l) same p

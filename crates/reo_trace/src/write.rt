@@ -254,6 +254,7 @@ pub fn write_report<K: Sink>(
     ensures rose { IfFault result (λ _. Rose (K.faults out.old) (K.faults out.new)) }
     ensures untouched { IsErrOf result NoMemory → out.new ≡ out.old }
     ensures later { K.faults out.old ≤ K.faults out.new }
+    ensures kept { OnOk result (K.faults out.new ≡ K.faults out.old) }
 {
     let mut line = Vec::new(alloc);
     measure(&mut line, net, nodes, texts, people, report)?;

@@ -1,4 +1,4 @@
-use Rattle.std.proofs.Common.{◌≡◌, ◌+◌, ◌++◌, ℕ, arith, drop, length-take, refl, subst, sym, take}
+use Rattle.std.proofs.Common.{◌≡◌, ◌+◌, ◌++◌, ℕ, arith, drop, length-take, refl, subst, sym, take, ◌∙◌}
 use Rattle.std.proofs.lemmas.List.{take-append-le}
 use Rattle.std.proofs.lemmas.Grind.{common_steps}
 use Rattle.std.proofs.KnownBytes.{Consumes-trans}
@@ -30,7 +30,7 @@ pieces-preserved g c =
     let items : c.extend_from_slice.new.self.items ≡ c.pieces.bytes.items ++ take c.in_ok-count.count c.read.new.buf = grind (arith, common_steps, read) in
     record {
       within = grind (arith, common_steps, length-take);
-      later = search (arith);
+      kept = c.in_ok-count.ensures.cause.kept ∙ c.pieces.invariant.kept;
       consumed = subst (Consumes _ _) (sym items) (Consumes-trans _ _ _ _ _ c.pieces.invariant.consumed c.in_ok-count.ensures.bytes.0);
       calls = RisesAtMost-one_more _ _ _ _ _ c.pieces.invariant.calls c.in_ok-count.ensures.counted (grind (arith, common_steps, length-take));
     }

@@ -1,4 +1,4 @@
-use Rattle.std.proofs.Common.{◌≤◌, ◌-◌, vec_len}
+use Rattle.std.proofs.Common.{◌≡◌, ◌≤◌, ◌-◌, vec_len}
 use Rattle.std.specs.Io.KnownBytes.{Consumes}
 use Rattle.reo_base.specs.Streams.{RisesAtMost}
 use Rattle.reo_base.proofs.whole_read.read_all.Given as goal
@@ -6,7 +6,7 @@ use Rattle.reo_base.proofs.whole_read.read_all.Given as goal
 abbrev pub invariant-pieces : goal.invariant-pieces
 invariant-pieces g l = record {
   within : vec_len l.bytes ≤ l.max;
-  later : g.S.Source.faults l.initial.source ≤ g.S.Source.faults l.source;
+  kept : g.S.Source.faults l.source ≡ g.S.Source.faults l.initial.source;
   consumed : Consumes (g.S.Source.left l.initial.source) (g.S.Source.left l.source) l.bytes.items;
   calls : RisesAtMost (g.S.Source.reads l.initial.source) (g.S.Source.reads l.source) (vec_len l.bytes);
 }

@@ -1,4 +1,4 @@
-use Rattle.std.proofs.Common.{sym, arith}
+use Rattle.std.proofs.Common.{sym, ◌∙◌, arith}
 use Rattle.reo_value.specs.Lexicon.{text_at}
 use Rattle.reo_trace.specs.Passes.{own_calls}
 use Rattle.reo_trace.proofs.ListLemmas.{length-numbered-next, length-numbered-split}
@@ -21,7 +21,7 @@ pub loop-number-preserved : goal.loop-number-preserved
 loop-number-preserved g c = record {
   extended = extended-next (λ k. own_calls c.args.net.now c.args.nodes.now c.args.texts.now (text_at c.args.people.now k)) _ _ c.index-calls-number.result (g.K.Sink.written c.args.out.now) (g.K.Sink.written c.loop-number.out) (g.K.Sink.written c.write_own_calls.new.out) c.loop-number-test.true c.index-calls-number.is c.loop-number.invariant.extended (rw (c.bytes_at-person.ensures, c.as_slice.ensures) at c.in-Ok.ensures.written);
   written = omega (arith, length-numbered-next (λ k. own_calls c.args.net.now c.args.nodes.now c.args.texts.now (text_at c.args.people.now k)) _ _ c.index-calls-number.result _ c.loop-number-test.true (sym c.index-calls-number.is), c.loop-number.invariant.written, (rw (c.bytes_at-person.ensures, c.as_slice.ensures) at c.in-Ok.ensures.count));
-  later = omega (arith, c.loop-number.invariant.later, c.in-Ok.ensures.cause.later);
+  kept = c.in-Ok.ensures.cause.kept ∙ c.loop-number.invariant.kept;
   capacity = omega (arith, c.loop-number.invariant.capacity, c.in-Ok.ensures.capacity);
 }
 

@@ -7,6 +7,6 @@ abbrev pub invariant-loop-call : goal.invariant-loop-call
 invariant-loop-call g l = record {
   extended : IsExtended (g.K.Sink.written l.initial.out) (g.K.Sink.written l.out) (own_calls l.net l.nodes l.texts l.person (take l.call-index l.own));
   written : l.written ≡ length (own_calls l.net l.nodes l.texts l.person (take l.call-index l.own));
-  later : g.K.Sink.faults l.initial.out ≤ g.K.Sink.faults l.out;
+  kept : g.K.Sink.faults l.out ≡ g.K.Sink.faults l.initial.out;
   capacity : vec_capacity l.initial.buffer ≤ vec_capacity l.buffer;
 }

@@ -1,4 +1,4 @@
-use Rattle.std.proofs.Common.{sym, arith}
+use Rattle.std.proofs.Common.{sym, ◌∙◌, arith}
 use Rattle.reo_trace.specs.ReportText.{step_line}
 use Rattle.reo_trace.proofs.ListLemmas.{LinesFit-at, length-numbered-next, length-numbered-split}
 use Rattle.reo_trace.proofs.WriteLemmas.{extended-next, part-at}
@@ -20,7 +20,7 @@ pub loop-number-preserved : goal.loop-number-preserved
 loop-number-preserved g c = record {
   extended = extended-next (step_line c.args.net.now c.args.nodes.now c.args.texts.now) _ _ c.index-steps-number.result (g.K.Sink.written c.args.out.now) (g.K.Sink.written c.loop-number.out) (g.K.Sink.written c.write_step.new.out) c.loop-number-test.true c.index-steps-number.is c.loop-number.invariant.extended c.in-Ok.ensures.written;
   written = omega (arith, length-numbered-next (step_line c.args.net.now c.args.nodes.now c.args.texts.now) _ _ c.index-steps-number.result _ c.loop-number-test.true (sym c.index-steps-number.is), c.loop-number.invariant.written, c.in-Ok.ensures.count);
-  later = omega (arith, c.loop-number.invariant.later, c.in-Ok.ensures.cause.later);
+  kept = c.in-Ok.ensures.cause.kept ∙ c.loop-number.invariant.kept;
   capacity = omega (arith, c.loop-number.invariant.capacity, c.in-Ok.ensures.capacity);
 }
 

@@ -7,6 +7,6 @@ abbrev pub invariant-loop-number : goal.invariant-loop-number
 invariant-loop-number g l = record {
   extended : IsExtended (g.K.Sink.written l.initial.out) (g.K.Sink.written l.out) (all_steps l.net l.nodes l.texts (take l.number l.steps));
   written : l.written ≡ length (all_steps l.net l.nodes l.texts (take l.number l.steps));
-  later : g.K.Sink.faults l.initial.out ≤ g.K.Sink.faults l.out;
+  kept : g.K.Sink.faults l.out ≡ g.K.Sink.faults l.initial.out;
   capacity : vec_capacity l.initial.buffer ≤ vec_capacity l.buffer;
 }

@@ -1,0 +1,4 @@
+pub mod ClosureLemmas
+pub mod EdgeLemmas
+pub mod LeastLemmas
+pub mod TableLemmas
