@@ -12,3 +12,4 @@ pub mod TableLemmas
 pub mod SearchLemmas
 pub mod SortLemmas
 pub mod FiringLemmas
+pub mod SplitLemmas

@@ -1,5 +1,5 @@
 //! Laws about the definitions, each a function that does nothing.
-ghost use Rattle.reo_growth.specs.Laws.{GrowsAll, GrowsOnly, GrowsOnce, AgreesAsOne};
+ghost use Rattle.reo_growth.specs.Laws.{GrowsAll, GrowsOnly, GrowsOnce, AgreesAsOne, SplitsIntoParts, PartsShareNothing};
 
 /// The vertices at which no automaton is open are the connected firings, each once.
 pub fn connected_firings_are_grown()
@@ -11,4 +11,10 @@ pub fn connected_firings_are_grown()
 /// In a vertex, a link agrees with every automaton exactly where it agrees with all of them as one.
 pub fn agreement_is_of_the_whole()
     ensures { AgreesAsOne }
+{}
+
+/// The names that automata fire together split into connected firings that share no name.
+pub fn joint_firings_split()
+    ensures parts { SplitsIntoParts }
+    ensures apart { PartsShareNothing }
 {}
