@@ -1,6 +1,5 @@
 -- In a vertex, to agree with each automaton is to agree with all as one.
-use Rattle.std.proofs.Common.{◌≡◌, ℕ, List, Bool, true, false, not, ◌||◌, refl, sym, ◌∙◌, ap}
-use Rattle.std.specs.List.{list_any, list_all}
+use Rattle.std.proofs.Common.{◌≡◌, ℕ, List, true, not, ◌||◌, sym, ◌∙◌}
 use Rattle.reo_growth.specs.declared.web.Web.{Web}
 use Rattle.reo_growth.specs.Lists.{has, Among}
 use Rattle.reo_growth.specs.Web.{names_of, IsWeb}
@@ -24,20 +23,20 @@ module _ (w : Web) (v : Vertex) (x : ℕ) (link : List ℕ) where
   unfolding agrees_as_one
   as_one_gives h name its is =
       same_gives (has link name) (fired v name) (implied (known w v name) (same (has link name) (fired v name))
-        (all_gives (λ name. not (known w v name) || same (has link name) (fired v name)) (names_of w x) name h (has_among (names_of w x) name its)) is)
+      (all_gives (λ name. not (known w v name) || same (has link name) (fired v name)) (names_of w x) name h (has_among (names_of w x) name its)) is)
 
   as_one_from : ((name : ℕ) → has (names_of w x) name ≡ true → known w v name ≡ true → has link name ≡ fired v name) → agrees_as_one w v x link ≡ true
   unfolding agrees_as_one
   as_one_from h =
       all_from (λ name. not (known w v name) || same (has link name) (fired v name)) (names_of w x) (λ name at.
-        implies (known w v name) (same (has link name) (fired v name)) (λ is. same_from (has link name) (fired v name) (h name (among_has (names_of w x) name at) is)))
+      implies (known w v name) (same (has link name) (fired v name)) (λ is. same_from (has link name) (fired v name) (h name (among_has (names_of w x) name at) is)))
 
   pub agrees_is : (root : ℕ) → IsWeb w → IsSound w root v → agrees w v x link ≡ agrees_as_one w v x link
   agrees_is root is_web sound = same_tests (agrees w v x link) (agrees_as_one w v x link)
       (λ each. as_one_from (λ name its is. let m = known_gives w v name is in
-        agrees_gives w v x link each m.0 name m.1 its m.2 ∙ sym (fires_as w is_web root v sound m.0 name m.1 m.2)))
+      agrees_gives w v x link each m.0 name m.1 its m.2 ∙ sym (fires_as w is_web root v sound m.0 name m.1 m.2)))
       (λ whole. agrees_from w v x link (λ move name at its theirs.
-        as_one_gives whole name its (known_from w v move name at theirs) ∙ fires_as w is_web root v sound move name at theirs))
+      as_one_gives whole name its (known_from w v move name at theirs) ∙ fires_as w is_web root v sound move name at theirs))
 
 pub agrees_as_one_is : AgreesAsOne
 unfolding vertices

@@ -1,5 +1,5 @@
 -- The steps of the search, over plain lists.
-use Rattle.std.proofs.Common.{◌≡◌, ℕ, ◌+◌, ◌-◌, ◌<◌, ◌≤◌, List, [], ◌∷◌, ◌++◌, length, map, take, drop, get_or, Bool, true, false, not, ◌&&◌, ◌||◌, Option, Some, None, is_some, Result, Ok, Err, IfOk, refl, sym, ◌∙◌, ap, subst, arith, cond, ◌⊎◌, inl, inr, append-nil}
+use Rattle.std.proofs.Common.{◌≡◌, ℕ, ◌+◌, ◌<◌, ◌≤◌, List, [], ◌∷◌, ◌++◌, length, take, drop, get_or, Bool, true, false, not, ◌&&◌, ◌||◌, Option, Some, None, is_some, Result, Ok, Err, IfOk, refl, sym, ◌∙◌, ap, subst, cond, ◌⊎◌, inl, inr, append-nil}
 use Rattle.std.specs.Prelude.{position, flat_map}
 use Rattle.std.specs.declared.alloc.AllocError.{AllocError}
 use Rattle.std.specs.List.{list_all}
@@ -12,7 +12,7 @@ use Rattle.reo_growth.specs.declared.web.Web.{Web}
 use Rattle.reo_growth.specs.Lists.{has, Among}
 use Rattle.reo_growth.specs.Web.{names_of, links_of, IsWeb}
 use Rattle.reo_growth.specs.Growth.{Vertex, fired, known, same, agrees, agrees_as_one, fits, least_open, with_link, extended, children_at, grown, is_complete}
-use Rattle.reo_growth.specs.Marks.{allows, is_open_mark, is_fires, marks_of, automaton_marks, name_marks}
+use Rattle.reo_growth.specs.Marks.{allows, is_open_mark, is_fires, marks_of, name_marks}
 use Rattle.reo_growth.specs.Found.{rows_of, ranked, fired_places, row_of_vertex, WentOver, Went}
 use Rattle.reo_growth.specs.Sound.{IsSound, IsReady, widened}
 use Rattle.reo_growth.proofs.VertexLemmas.{fired_gives, extended_from}
@@ -20,7 +20,7 @@ use Rattle.reo_growth.proofs.SoundLemmas.{sound_child, sound_first}
 use Rattle.reo_growth.proofs.AgreeLemmas.{agrees_is, known_from}
 use Rattle.reo_growth.proofs.MarkLemmas.{front_of, back_of, length-name_marks}
 use Rattle.reo_growth.proofs.ReadLemmas.{first_open_is, fired_places_are, agrees_read, fits_read}
-use Rattle.reo_growth.proofs.WentLemmas.{went_none, went_on, complete_vertex, open_vertex, grown_alone, grown_below, grown_zero, grown_on, from_more, from_front, widened_no, widened_yes}
+use Rattle.reo_growth.proofs.WentLemmas.{went_none, went_on, complete_vertex, open_vertex, grown_alone, grown_below, grown_zero, grown_on, widened_no, widened_yes}
 
 pub if_ok : {A : Type 0} (P Q : A → Type 0) → ((a : A) → P a → Q a) → (r : Result A AllocError) → IfOk r P → IfOk r Q
 if_ok P Q h (Ok a) p = h a p
@@ -48,7 +48,7 @@ module _ (w : Web) (is_web : IsWeb w) (root : ℕ) (v : Vertex) where
     goes_complete left old new first room count rows =
         let none = least_is None first in
         let row : ranked (length back) (fired_places back) ≡ row_of_vertex w v =
-            ap (λ n. ranked n (fired_places back)) (ap length back_is ∙ length-name_marks w v) ∙ ap (ranked w.names) (fired_places_are w v back back_is) in
+        ap (λ n. ranked n (fired_places back)) (ap length back_is ∙ length-name_marks w v) ∙ ap (ranked w.names) (fired_places_are w v back back_is) in
         subst (λ list. WentOver w list old new) (sym (grown_alone w root left v none))
         (complete_vertex w v (ap (λ o. not (is_some o)) none) old new room count (λ few. rows few ∙ ap (λ r. rows_of old ++ r ∷ []) row))
 

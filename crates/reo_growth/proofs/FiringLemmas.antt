@@ -1,6 +1,6 @@
 -- The lists with no open automaton, as the connected firings; and their rows in table order.
-use Rattle.std.proofs.Common.{◌≡◌, ℕ, zero, suc, ◌+◌, ◌-◌, ◌<◌, ◌≤◌, ◌⊎◌, inl, inr, List, [], ◌∷◌, ◌++◌, length, map, get_or, Bool, true, false, cond, refl, sym, ◌∙◌, ap, subst, arith}
-use Rattle.std.specs.Prelude.{filter, flat_map}
+use Rattle.std.proofs.Common.{◌≡◌, ℕ, ◌+◌, ◌-◌, ◌<◌, ◌≤◌, ◌⊎◌, inl, inr, List, [], ◌∷◌, length, map, Bool, true, false, cond, refl, sym, ◌∙◌, ap, subst, arith}
+use Rattle.std.specs.Prelude.{filter}
 use Rattle.std.specs.List.{range_with_len, AllByRecursion}
 use Rattle.std.specs.Ordering.{nat_cmp, ordering_then}
 use Rattle.std.specs.declared.cmp.Ordering.TheVariants.{Less, Equal, Greater}
@@ -14,15 +14,14 @@ use Rattle.std.proofs.lemmas.List.Kept.{IsStrictlyIncreasing-filter}
 use Rattle.reo_growth.specs.declared.web.Web.{Web}
 use Rattle.reo_growth.specs.declared.found.Row.{Row}
 use Rattle.reo_growth.specs.Lists.{has, Among, AtMostOne}
-use Rattle.reo_growth.specs.Web.{names_of, IsWeb, IsConnected}
+use Rattle.reo_growth.specs.Web.{IsWeb, IsConnected}
 use Rattle.reo_growth.specs.Growth.{Vertex, fired, places, vertices_of, vertices, is_complete, firing_names, complete_ones}
 use Rattle.reo_growth.specs.Laws.{StandsFor}
 use Rattle.reo_growth.specs.declared.found.Found.{Found}
 use Rattle.reo_growth.specs.Table.{table_cmp, IsFiring, AreFirings, HasFirings, IsTableOf}
 use Rattle.reo_growth.specs.Found.{seen, row_of_vertex}
 use Rattle.reo_growth.specs.Search.{row_cmp, names_in, AreSortedRows, Covers}
-use Rattle.reo_growth.specs.Sound.{IsSound}
-use Rattle.reo_growth.proofs.ListLemmas.{same_tests, among_map, map_gives, among_filter, filter_gives, flat_map_gives, has_among, among_has, among_range, range_gives}
+use Rattle.reo_growth.proofs.ListLemmas.{same_tests, among_map, map_gives, among_filter, filter_gives, flat_map_gives, has_among, among_has, among_range}
 use Rattle.reo_growth.proofs.VertexLemmas.{fired_gives}
 use Rattle.reo_growth.proofs.SoundLemmas.{sound_of_root, grows_only}
 use Rattle.reo_growth.proofs.InsideLemmas.{grows_all}
@@ -88,9 +87,9 @@ module _ (w : Web) (is_web : IsWeb w) where
         (firing_names w g.0, among_map (firing_names w) (complete_ones w (vertices w)) g.0 (among_filter (is_complete w) (vertices w) g.0 g.1 g.2.complete), λ name. names_fire g.0 g.1 name ∙ g.2.fires name);
     once = λ names. once_map (firing_names w) (λ other. other ≡ names) (complete_ones w (vertices w))
         (once_weaker (StandsFor w (has names)) (λ v. firing_names w v ≡ names) (complete_ones w (vertices w))
-          (λ v at is. let c = filter_gives (is_complete w) (vertices w) v at in
-            record { complete = c.1; fires = λ name. sym (names_fire v c.0 name) ∙ ap (λ ns. has ns name) is })
-          (once_kept (is_complete w) (StandsFor w (has names)) (vertices w) (grows_once w is_web (has names))));
+        (λ v at is. let c = filter_gives (is_complete w) (vertices w) v at in
+        record { complete = c.1; fires = λ name. sym (names_fire v c.0 name) ∙ ap (λ ns. has ns name) is })
+        (once_kept (is_complete w) (StandsFor w (has names)) (vertices w) (grows_once w is_web (has names))));
   }
 
 -- rows in order are lists in table order
@@ -114,6 +113,7 @@ once_strict names (x ∷ xs) strict = (λ is y at also. less_absurd (all_at (λ 
     all_at P [] all y at = elim at [ ]
     all_at P (z ∷ zs) all y (inl is) = subst P is all.0
     all_at P (z ∷ zs) all y (inr later) = all_at P zs all.1 y later
+
     less_absurd : {y : List ℕ} → table_cmp x y ≡ Less → x ≡ y → ⊥
     less_absurd {y} less same = let e : table_cmp x y ≡ Equal = ap (λ z. table_cmp x z) (sym same) ∙ table_equal x in cc
 
@@ -200,11 +200,11 @@ module _ (w : Web) (is_web : IsWeb w) (found : Found) (covers : Covers w found) 
           once = λ names. once_strict names lists in_order;
         };
         few =
-          let rows = ap length (covers.rows few) in
-          let seen_long = length-map found.rows.items seen in
-          let ones_long = length-map (complete_ones w (vertices w)) (row_of_vertex w) in
-          let lists_long = ap length sorted.names ∙ length-map sorted.kept names_in in
-          omega (arith, covers.count, sorted.no_more, rows, seen_long, ones_long, lists_long);
+            let rows = ap length (covers.rows few) in
+            let seen_long = length-map found.rows.items seen in
+            let ones_long = length-map (complete_ones w (vertices w)) (row_of_vertex w) in
+            let lists_long = ap length sorted.names ∙ length-map sorted.kept names_in in
+            omega (arith, covers.count, sorted.no_more, rows, seen_long, ones_long, lists_long);
         ordered = in_order;
       }
 

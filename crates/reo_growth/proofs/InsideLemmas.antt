@@ -1,16 +1,16 @@
 -- Growth finds each connected firing: from its least automaton on, some child stays inside it until it is whole.
-use Rattle.std.proofs.Common.{◌≡◌, ℕ, zero, suc, ◌+◌, ◌<◌, ◌≤◌, ◌⊎◌, inl, inr, List, [], ◌∷◌, length, Bool, true, false, not, cond, ◌||◌, Option, Some, None, is_some, refl, sym, ◌∙◌, ap, subst, arith}
-use Rattle.std.specs.Prelude.{nat_eq, nat_lt, flat_map, filter}
-use Rattle.std.specs.List.{list_any, find, range_with_len}
-use Rattle.std.proofs.lemmas.Bool.{false≢true, true≢false, or_cases, or_from, or_left, or_right, or_parts, eqb-true, eq-eqb, cases_Bool, le-ltb, ltb-true, lt-ltb, not-true, false_from_ne_true}
+use Rattle.std.proofs.Common.{◌≡◌, ℕ, zero, suc, ◌+◌, ◌<◌, ◌≤◌, inl, inr, List, [], ◌∷◌, length, Bool, true, false, not, cond, Option, Some, None, is_some, refl, sym, ◌∙◌, ap, subst, arith}
+use Rattle.std.specs.Prelude.{nat_eq, nat_lt}
+use Rattle.std.specs.List.{list_any, find}
+use Rattle.std.proofs.lemmas.Bool.{false≢true, true≢false, or_left, or_right, eq-eqb, cases_Bool, le-ltb, ltb-true, lt-ltb}
 use Rattle.std.proofs.lemmas.List.FromFn.{length-range_with_len}
 use Rattle.reo_growth.specs.declared.web.Web.{Web}
 use Rattle.reo_growth.specs.Lists.{has, Among}
-use Rattle.reo_growth.specs.Web.{names_of, links_of, IsWeb, Moves, FiresAs, Together, here, joined, IsConnected}
+use Rattle.reo_growth.specs.Web.{names_of, IsWeb, Moves, FiresAs, Together, here, joined, IsConnected}
 use Rattle.reo_growth.specs.Growth.{Move, Vertex, fired, is_listed, is_open, places, least_open, agrees, fits, with_link, extended, children_at, grown, vertices_of, vertices, is_complete}
 use Rattle.reo_growth.specs.Laws.{StandsFor, GrowsAll}
-use Rattle.reo_growth.proofs.ListLemmas.{same_tests, any_from, any_gives, among_flat_map, has_among, among_has, among_range, range_gives, find_gives, find_fails}
-use Rattle.reo_growth.proofs.VertexLemmas.{fired_from, fired_gives, listed_from, listed_gives, name_within, open_gives, least_gives, complete_lists, agrees_from, fits_from, extended_from}
+use Rattle.reo_growth.proofs.ListLemmas.{same_tests, any_from, any_gives, among_flat_map, has_among, among_has, among_range, find_gives, find_fails}
+use Rattle.reo_growth.proofs.VertexLemmas.{fired_from, fired_gives, listed_gives, name_within, open_gives, least_gives, complete_lists, agrees_from, fits_from, extended_from}
 
 -- how many of these numbers fail a test
 failing : (ℕ → Bool) → List ℕ → ℕ
@@ -86,10 +86,14 @@ module _ (w : Web) (F : ℕ → Bool) where
             let m = connected.moving in
             absurd (true≢false (sym (test_from connected.some m) ∙ find_fails moves_test 0 (length w.automata) is connected.some (omega arith) (let b = name_within w connected.some m.name m.its in omega arith)))
         go (Some x) is =
-            let f = find_gives moves_test 0 (length w.automata) x is in
-            (x, test_gives x f.2, λ y moves. elim (cases_Bool (nat_lt y x)) [
-                inl less ↦ absurd (true≢false (sym (test_from y moves) ∙ f.3 y (omega arith) (ltb-true y x less)))
-              | inr more ↦ (let ne : y < x → ⊥ = λ l. true≢false (sym (lt-ltb y x l) ∙ more) in omega arith) ])
+            let f = find_gives moves_test 0 (length w.automata) x is in (
+              x,
+              test_gives x f.2,
+              λ y moves. elim (cases_Bool (nat_lt y x)) [
+                | inl less ↦ absurd (true≢false (sym (test_from y moves) ∙ f.3 y (omega arith) (ltb-true y x less)))
+                | inr more ↦ (let ne : y < x → ⊥ = λ l. true≢false (sym (lt-ltb y x l) ∙ more) in omega arith)
+              ],
+            )
 
     fires_inside : (root : ℕ) (v : Vertex) → IsInside root v → (name : ℕ) → fired v name ≡ true → F name ≡ true
     fires_inside root v inside name fires =
@@ -132,11 +136,12 @@ module _ (w : Web) (F : ℕ → Bool) where
           let moves = open_moves v inside x opens in
           let link = connected.each x moves in
           let at = next_child v x link.0 inside link.1 in
-          let above : cond (nat_lt x root) [] (extended w v x) ≡ extended w v x = ap (λ b. cond b [] (extended w v x)) (le-ltb x root (least x moves)) in
-          (link.0,
+          let above : cond (nat_lt x root) [] (extended w v x) ≡ extended w v x = ap (λ b. cond b [] (extended w v x)) (le-ltb x root (least x moves)) in (
+            link.0,
             subst (λ o. Among (with_link v x link.0) (children_at w root v o)) (sym is) (subst (Among (with_link v x link.0)) (sym above) at),
             inside_next v x link.0 inside link.1,
-            fewer v x link.0 (name_within w x moves.name moves.its) (open_gives w v x opens).0)
+            fewer v x link.0 (name_within w x moves.name moves.its) (open_gives w v x opens).0,
+          )
 
       Whole : Vertex → ℕ → Type 0
       Whole v n = (u : Vertex) × Among u (grown w root n v) × IsInside root u × (is_complete w u ≡ true)
@@ -168,10 +173,10 @@ module _ (w : Web) (F : ℕ → Bool) where
 
       whole_fires : (u : Vertex) → IsInside root u → is_complete w u ≡ true → Moves w F root → (name : ℕ) → fired u name ≡ F name
       whole_fires u inside complete moving name = same_tests (fired u name) (F name) (fires_inside root u inside name) (λ fires.
-        let x = connected.within name fires in
-        let m = listed_gives u x.0 (all_listed u inside complete x.0 (connected.together root x.0 moving (record { name = name; its = x.1; fires = fires }))) in
-        let at : has (names_of w m.0.automaton) name ≡ true = subst (λ z. has (names_of w z) name ≡ true) (sym m.2) x.1 in
-        fired_from u m.0 name m.1 (sym ((inside.its m.0 m.1).same name at) ∙ fires))
+          let x = connected.within name fires in
+          let m = listed_gives u x.0 (all_listed u inside complete x.0 (connected.together root x.0 moving (record { name = name; its = x.1; fires = fires }))) in
+          let at : has (names_of w m.0.automaton) name ≡ true = subst (λ z. has (names_of w z) name ≡ true) (sym m.2) x.1 in
+          fired_from u m.0 name m.1 (sym ((inside.its m.0 m.1).same name at) ∙ fires))
 
       first_inside : (link : List ℕ) → FiresAs w F root link → IsInside root (with_link [] root link)
       unfolding with_link is_listed
@@ -190,12 +195,13 @@ module _ (w : Web) (F : ℕ → Bool) where
           let link = connected.each root moving in
           let first = with_link [] root link.0 in
           let whole = grows_inside (length w.automata) first (first_inside link.0 link.1)
-          (let b = failing_bound (is_listed first) (places w) in let l = length-range_with_len 0 (length w.automata) in omega arith) in
-          (whole.0,
+          (let b = failing_bound (is_listed first) (places w) in let l = length-range_with_len 0 (length w.automata) in omega arith) in (
+            whole.0,
             among_flat_map (vertices_of w) (places w) root whole.0
-            (among_range 0 (length w.automata) root (omega arith) (let b = name_within w root moving.name moving.its in omega arith))
-            (among_flat_map (grown w root (length w.automata)) (extended w [] root) first whole.0 (first_is_vertex link.0 link.1) whole.1),
-            record { complete = whole.3; fires = whole_fires whole.0 whole.2 whole.3 moving })
+                (among_range 0 (length w.automata) root (omega arith) (let b = name_within w root moving.name moving.its in omega arith))
+                (among_flat_map (grown w root (length w.automata)) (extended w [] root) first whole.0 (first_is_vertex link.0 link.1) whole.1),
+            record { complete = whole.3; fires = whole_fires whole.0 whole.2 whole.3 moving },
+          )
 
 pub grows_all : GrowsAll
 grows_all w is_web F connected =

@@ -1,8 +1,8 @@
 -- Membership, tests, and lists of which at most one place has a property.
-use Rattle.std.proofs.Common.{◌≡◌, ℕ, zero, suc, ◌+◌, ◌<◌, ◌≤◌, ◌⊎◌, inl, inr, ⊎_elim, List, [], ◌∷◌, ◌++◌, length, map, Bool, true, false, not, cond, ◌&&◌, ◌||◌, Option, Some, None, All, get_or, add-one, add-zero, zero-add, refl, sym, ◌∙◌, ap, subst, arith}
+use Rattle.std.proofs.Common.{◌≡◌, ℕ, zero, suc, ◌+◌, ◌<◌, ◌≤◌, ◌⊎◌, inl, inr, ⊎_elim, List, [], ◌∷◌, ◌++◌, length, map, Bool, true, false, cond, Some, None, All, get_or, add-one, add-zero, zero-add, refl, sym, ◌∙◌, ap, subst, arith}
 use Rattle.std.specs.Prelude.{nat_eq, filter, flat_map}
 use Rattle.std.specs.List.{list_any, list_all, find, range_with_len}
-use Rattle.std.proofs.lemmas.Bool.{false≢true, true≢false, and_parts, and_from, or_cases, or_from, or_left, or_right, or_parts, eqb-true, eq-eqb, cases_Bool}
+use Rattle.std.proofs.lemmas.Bool.{false≢true, and_parts, and_from, or_cases, or_left, or_right, eqb-true, eq-eqb, cases_Bool}
 use Rattle.std.proofs.lemmas.List.Elements.{filter-append}
 use Rattle.reo_growth.specs.Lists.{has, Among, AtMostOne}
 
@@ -154,9 +154,10 @@ module _ (p : ℕ → Bool) where
 module _ {A : Type 0} (P : A → Type 0) where
   pub once_append : (xs ys : List A) → AtMostOne P xs → AtMostOne P ys → ((x y : A) → Among x xs → Among y ys → P x → P y → ⊥) → AtMostOne P (xs ++ ys)
   once_append [] ys one two apart = two
-  once_append (x ∷ xs) ys one two apart =
-      (λ holds y among other. ⊎_elim (λ front. one.0 holds y front other) (λ back. apart x y (inl refl) back holds other) (append_gives y xs ys among),
-        once_append xs ys one.1 two (λ a b at_a at_b. apart a b (inr at_a) at_b))
+  once_append (x ∷ xs) ys one two apart = (
+    λ holds y among other. ⊎_elim (λ front. one.0 holds y front other) (λ back. apart x y (inl refl) back holds other) (append_gives y xs ys among),
+    once_append xs ys one.1 two (λ a b at_a at_b. apart a b (inr at_a) at_b),
+  )
 
   -- no two elements of xs lead to elements with the property
   unfoldable pub AreSeparate : {B : Type 0} → (B → List A) → List B → Type 0

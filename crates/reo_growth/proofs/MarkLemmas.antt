@@ -1,9 +1,9 @@
 -- The marks of a list that an automaton enters.
-use Rattle.std.proofs.Common.{◌≡◌, ℕ, ◌+◌, ◌<◌, ◌⊎◌, inl, inr, List, [], ◌∷◌, ◌++◌, length, map, take, drop, All, get_or, Bool, true, false, not, cond, ◌||◌, ◌&&◌, Option, Some, None, slice_get, refl, sym, ◌∙◌, ap, subst, arith, get_or-set_other, get_or-set_same, zero-add, length-append}
+use Rattle.std.proofs.Common.{◌≡◌, ℕ, ◌+◌, ◌<◌, ◌⊎◌, inl, inr, List, [], ◌∷◌, ◌++◌, length, take, drop, get_or, Bool, true, false, cond, ◌||◌, refl, sym, ◌∙◌, ap, arith, get_or-set_other, get_or-set_same, zero-add, length-append}
 use Rattle.std.specs.Prelude.{nat_eq}
-use Rattle.std.specs.List.{list_any, range_with_len}
+use Rattle.std.specs.List.{list_any}
 use Rattle.std.proofs.Math.ListN.{set, length-set}
-use Rattle.std.proofs.lemmas.Bool.{false≢true, true≢false, eqb-true, eq-eqb, cases_Bool}
+use Rattle.std.proofs.lemmas.Bool.{false≢true, eqb-true, eq-eqb, cases_Bool}
 use Rattle.std.specs.Option.{option_map_or}
 use Rattle.std.proofs.lemmas.Option.{slice_get-get_or}
 use Rattle.std.proofs.lemmas.List.{same_lists, take_more}
@@ -16,7 +16,7 @@ use Rattle.reo_growth.specs.declared.marks.Mark.TheVariants.{Absent, Open, Liste
 use Rattle.reo_growth.specs.declared.web.Web.{Web}
 use Rattle.reo_growth.specs.Lists.{has, Among}
 use Rattle.reo_growth.specs.Web.{names_of, links_of, IsWeb}
-use Rattle.reo_growth.specs.Growth.{Move, Vertex, fired, known, is_listed, places, with_link}
+use Rattle.reo_growth.specs.Growth.{Vertex, fired, known, is_listed, with_link}
 use Rattle.reo_growth.specs.Marks.{Changes, AreBelow, met, opened, automaton_mark, name_mark, automaton_marks, name_marks, marks_of, holders_at, is_held, AreHolders}
 use Rattle.reo_growth.proofs.ListLemmas.{same_tests, any_from, any_gives, has_among, among_has, among_at}
 
@@ -59,15 +59,17 @@ module _ (w : Web) (v : Vertex) (x : ℕ) (link : List ℕ) where
   pub names_entered : (old middle new : List Mark) → old ≡ name_marks w v → Changes (has (names_of w x)) met old middle → Changes (has link) (λ _. Fires) middle new → new ≡ name_marks w (with_link v x link)
   names_entered old middle new is first second =
       same_lists new (name_marks w (with_link v x link)) (size ∙ sym (length-map-range_with_len (name_mark w (with_link v x link)) 0 w.names)) (λ k d below.
-        let within : k < w.names = omega (arith, size) in
-        second.1 k d (omega (arith, first.0, size_old))
-        ∙ ap (λ m. cond (has link k) Fires m) (first.1 k d (omega (arith, size_old)) ∙ ap (λ m. cond (has (names_of w x) k) (met m) m) (old_at k d within))
-        ∙ sym (name_mark_next k) ∙ sym (get_or-map-range_with_len (name_mark w (with_link v x link)) 0 w.names k k d within (zero-add k)))
+      let within : k < w.names = omega (arith, size) in
+      second.1 k d (omega (arith, first.0, size_old))
+      ∙ ap (λ m. cond (has link k) Fires m) (first.1 k d (omega (arith, size_old)) ∙ ap (λ m. cond (has (names_of w x) k) (met m) m) (old_at k d within))
+      ∙ sym (name_mark_next k) ∙ sym (get_or-map-range_with_len (name_mark w (with_link v x link)) 0 w.names k k d within (zero-add k)))
     where
       size_old : length old ≡ w.names
       size_old = ap length is ∙ length-map-range_with_len (name_mark w v) 0 w.names
+
       size : length new ≡ w.names
       size = second.0 ∙ first.0 ∙ size_old
+
       old_at : (k : ℕ) (d : Mark) → k < w.names → get_or old k d ≡ name_mark w v k
       old_at k d within = ap (λ xs. get_or xs k d) is ∙ get_or-map-range_with_len (name_mark w v) 0 w.names k k d within (zero-add k)
 
@@ -75,12 +77,12 @@ module _ (w : Web) (v : Vertex) (x : ℕ) (link : List ℕ) where
     held : (y : ℕ) → is_held holders link y ≡ list_any (has link) (names_of w y)
     held y = same_tests (is_held holders link y) (list_any (has link) (names_of w y))
         (λ h. let f = any_gives (λ name. has (holders_at holders name) y) link h in
-          let in_link = among_has link f.0 f.1 in
-          let below = is_web.below x f.0 (is_web.own x link its f.0 in_link) in
-          any_from (has link) (names_of w y) f.0 (has_among (names_of w y) f.0 (sym (right.have y f.0 below) ∙ f.2)) in_link)
+        let in_link = among_has link f.0 f.1 in
+        let below = is_web.below x f.0 (is_web.own x link its f.0 in_link) in
+        any_from (has link) (names_of w y) f.0 (has_among (names_of w y) f.0 (sym (right.have y f.0 below) ∙ f.2)) in_link)
         (λ h. let f = any_gives (has link) (names_of w y) h in
-          let of_y = among_has (names_of w y) f.0 f.1 in
-          any_from (λ name. has (holders_at holders name) y) link f.0 (has_among link f.0 f.2) (right.have y f.0 (is_web.below y f.0 of_y) ∙ of_y))
+        let of_y = among_has (names_of w y) f.0 f.1 in
+        any_from (λ name. has (holders_at holders name) y) link f.0 (has_among link f.0 f.2) (right.have y f.0 (is_web.below y f.0 of_y) ∙ of_y))
 
     automaton_mark_next : (y : ℕ) → nat_eq x y ≡ false → automaton_mark w (with_link v x link) y ≡ cond (is_held holders link y) (opened (automaton_mark w v y)) (automaton_mark w v y)
     unfolding automaton_mark fired is_listed with_link
@@ -96,13 +98,15 @@ module _ (w : Web) (v : Vertex) (x : ℕ) (link : List ℕ) where
     pub automata_entered : (old middle : List Mark) → old ≡ automaton_marks w v → x < length w.automata → Changes (is_held holders link) opened old middle → set middle x Listed ≡ automaton_marks w (with_link v x link)
     automata_entered old middle is below changes =
         same_lists (set middle x Listed) (automaton_marks w (with_link v x link)) (length-set middle x Listed ∙ size ∙ sym (length-map-range_with_len (automaton_mark w (with_link v x link)) 0 (length w.automata))) (λ k d at.
-          let within : k < length w.automata = omega (arith, size, length-set middle x Listed) in
-          at_place k d within (cases_Bool (nat_eq x k)) ∙ sym (get_or-map-range_with_len (automaton_mark w (with_link v x link)) 0 (length w.automata) k k d within (zero-add k)))
+        let within : k < length w.automata = omega (arith, size, length-set middle x Listed) in
+        at_place k d within (cases_Bool (nat_eq x k)) ∙ sym (get_or-map-range_with_len (automaton_mark w (with_link v x link)) 0 (length w.automata) k k d within (zero-add k)))
       where
         size_old : length old ≡ length w.automata
         size_old = ap length is ∙ length-map-range_with_len (automaton_mark w v) 0 (length w.automata)
+
         size : length middle ≡ length w.automata
         size = changes.0 ∙ size_old
+
         at_place : (k : ℕ) (d : Mark) → k < length w.automata → (nat_eq x k ≡ true) ⊎ (nat_eq x k ≡ false) → get_or (set middle x Listed) k d ≡ automaton_mark w (with_link v x link) k
         at_place k d within (inl here) =
             let e : x ≡ k = eqb-true x k here in
@@ -116,10 +120,12 @@ module _ (w : Web) (v : Vertex) (x : ℕ) (link : List ℕ) where
 -- one change after another
 pub changes_twice : (change : Mark → Mark) → ((m : Mark) → change (change m) ≡ change m) → (p q r : ℕ → Bool) → ((k : ℕ) → r k ≡ (p k || q k)) → (old middle new : List Mark)
     → Changes p change old middle → Changes q change middle new → Changes r change old new
-changes_twice change again p q r either old middle new first second =
-    (second.0 ∙ first.0, λ k d below.
+changes_twice change again p q r either old middle new first second = (
+  second.0 ∙ first.0,
+  λ k d below.
       second.1 k d (omega (arith, first.0)) ∙ ap (λ m. cond (q k) (change m) m) (first.1 k d below)
-      ∙ twice (p k) (q k) (get_or old k d) ∙ ap (λ b. cond b (change (get_or old k d)) (get_or old k d)) (sym (either k)))
+      ∙ twice (p k) (q k) (get_or old k d) ∙ ap (λ b. cond b (change (get_or old k d)) (get_or old k d)) (sym (either k)),
+)
   where
     twice : (a b : Bool) (m : Mark) → cond b (change (cond a (change m) m)) (cond a (change m) m) ≡ cond (a || b) (change m) m
     twice true true m = again m

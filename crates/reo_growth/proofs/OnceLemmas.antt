@@ -1,15 +1,15 @@
 -- No two vertices stand for the same set.
-use Rattle.std.proofs.Common.{◌≡◌, ◌≢◌, ℕ, zero, suc, ◌+◌, ◌<◌, ◌≤◌, ◌⊎◌, inl, inr, List, [], ◌∷◌, ◌++◌, length, map, Bool, true, false, not, cond, ◌&&◌, ◌||◌, Option, Some, None, is_some, refl, sym, ◌∙◌, ap, subst, arith}
-use Rattle.std.specs.Prelude.{nat_eq, nat_lt, flat_map, filter}
+use Rattle.std.proofs.Common.{◌≡◌, ◌≢◌, ℕ, zero, suc, ◌+◌, ◌<◌, ◌⊎◌, inl, inr, List, [], ◌∷◌, length, map, Bool, true, false, not, cond, ◌&&◌, Option, Some, None, is_some, refl, sym, ◌∙◌, subst, arith}
+use Rattle.std.specs.Prelude.{nat_lt, flat_map, filter}
 use Rattle.std.specs.List.{range_with_len}
 use Rattle.std.proofs.lemmas.Bool.{false≢true, true≢false, cases_Bool}
 use Rattle.reo_growth.specs.declared.web.Web.{Web}
 use Rattle.reo_growth.specs.Lists.{has, Among, AtMostOne}
 use Rattle.reo_growth.specs.Web.{names_of, links_of, Differ, AreApart, IsWeb}
-use Rattle.reo_growth.specs.Growth.{Move, Vertex, fired, is_listed, places, least_open, agrees, fits, with_link, extended, children_at, grown, vertices_of, vertices, is_complete}
+use Rattle.reo_growth.specs.Growth.{Move, Vertex, places, least_open, agrees, fits, with_link, extended, children_at, grown, vertices_of, vertices, is_complete}
 use Rattle.reo_growth.specs.Laws.{StandsFor, GrowsOnce}
 use Rattle.reo_growth.proofs.ListLemmas.{among_map, map_gives, filter_gives, flat_map_gives, range_gives, once_flat_map, AreSeparate}
-use Rattle.reo_growth.proofs.VertexLemmas.{fired_from, listed_gives, complete_lists, IsExtended, extended_gives}
+use Rattle.reo_growth.proofs.VertexLemmas.{fired_from, listed_gives, complete_lists, extended_gives}
 use Rattle.reo_growth.specs.Sound.{IsSound}
 use Rattle.reo_growth.proofs.SoundLemmas.{fires_as, sound_first, sound_child, sound_grown, sound_of_root}
 
@@ -57,15 +57,16 @@ module _ (w : Web) (is_web : IsWeb w) (F : ℕ → Bool) where
             → IsSound w root a → IsSound w root b → (has (names_of w x) differ.at ≡ true) ⊎ (has (names_of w x) differ.at ≡ false) → ⊥
         at_name at_a at_b sound_a sound_b (inl its) =
             differ.differ (sym (fires_as w is_web root a sound_a (record { automaton = x; fires = one }) differ.at at_a its)
-              ∙ for_a.fires differ.at ∙ sym (for_b.fires differ.at)
-              ∙ fires_as w is_web root b sound_b (record { automaton = x; fires = other }) differ.at at_b its)
+            ∙ for_a.fires differ.at ∙ sym (for_b.fires differ.at)
+            ∙ fires_as w is_web root b sound_b (record { automaton = x; fires = other }) differ.at at_b its)
         at_name at_a at_b sound_a sound_b (inr foreign) =
             differ.differ (not_its one its_one ∙ sym (not_its other its_other))
           where
             not_its : (link : List ℕ) → Among link (links_of w x) → has link differ.at ≡ false
             not_its link its = elim (cases_Bool (has link differ.at)) [
-                inl is ↦ absurd (true≢false (sym (is_web.own x link its differ.at is) ∙ foreign))
-              | inr is ↦ is ]
+              | inl is ↦ absurd (true≢false (sym (is_web.own x link its differ.at is) ∙ foreign))
+              | inr is ↦ is
+            ]
 
     links_separate : (n : ℕ) (test : List ℕ → Bool) (links : List (List ℕ)) → AreApart links → ((link : List ℕ) → Among link links → Among link (links_of w x))
         → ((link : List ℕ) → Among link (filter test links) → IsSound w root (with_link v x link))
@@ -107,8 +108,10 @@ module _ (w : Web) (is_web : IsWeb w) (F : ℕ → Bool) where
   once_grown : (root n : ℕ) (v : Vertex) → IsSound w root v → AtMostOne (StandsFor w F) (grown w root n v)
   unfolding grown children_at
   once_grown root zero v sound = (λ holds y at other. elim at [ ], tt)
-  once_grown root (suc n) v sound = (λ holds y at other. none_below root v (flat_map_gives (grown w root n) (children_at w root v (least_open w v)) y at).0 holds.complete (flat_map_gives (grown w root n) (children_at w root v (least_open w v)) y at).1,
-      go (least_open w v) (λ u at. sound_child w is_web root v u sound at) (λ u sounds. once_grown root n u sounds))
+  once_grown root (suc n) v sound = (
+    λ holds y at other. none_below root v (flat_map_gives (grown w root n) (children_at w root v (least_open w v)) y at).0 holds.complete (flat_map_gives (grown w root n) (children_at w root v (least_open w v)) y at).1,
+    go (least_open w v) (λ u at. sound_child w is_web root v u sound at) (λ u sounds. once_grown root n u sounds),
+  )
     where
       go : (o : Option ℕ) → ((u : Vertex) → Among u (children_at w root v o) → IsSound w root u) → ((u : Vertex) → IsSound w root u → AtMostOne (StandsFor w F) (grown w root n u))
           → AtMostOne (StandsFor w F) (flat_map (grown w root n) (children_at w root v o))
@@ -140,9 +143,10 @@ module _ (w : Web) (is_web : IsWeb w) (F : ℕ → Bool) where
   roots_separate : (a n : ℕ) → AreSeparate (StandsFor w F) (vertices_of w) (range_with_len a n)
   unfolding AreSeparate
   roots_separate a zero = tt
-  roots_separate a (suc n) =
-      (λ y one other at at_one at_other for_one for_other. let r = range_gives (a + 1) n y at in roots_apart a y one other (omega (arith, r.0)) at_one at_other for_one for_other,
-        roots_separate (a + 1) n)
+  roots_separate a (suc n) = (
+    λ y one other at at_one at_other for_one for_other. let r = range_gives (a + 1) n y at in roots_apart a y one other (omega (arith, r.0)) at_one at_other for_one for_other,
+    roots_separate (a + 1) n,
+  )
 
   pub once_all : AtMostOne (StandsFor w F) (vertices w)
   unfolding vertices

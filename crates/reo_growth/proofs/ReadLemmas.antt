@@ -1,11 +1,11 @@
 -- What the marks of a list tell of it.
-use Rattle.std.proofs.Common.{◌≡◌, ℕ, ◌+◌, ◌<◌, ◌≤◌, ◌⊎◌, inl, inr, List, [], ◌∷◌, ◌++◌, length, map, All, get_or, Bool, true, false, not, cond, ◌||◌, ◌&&◌, Option, Some, None, refl, sym, ◌∙◌, ap, subst, arith, zero-add, zero, suc}
-use Rattle.std.specs.Prelude.{nat_eq, nat_lt, filter, position}
-use Rattle.std.specs.List.{list_any, list_all, find, range_with_len, position_or_len, prefix_len}
-use Rattle.std.proofs.lemmas.Bool.{false≢true, true≢false, cases_Bool, cases_order, not-true, lt-ltb, ltb-true, ltb-false}
+use Rattle.std.proofs.Common.{◌≡◌, ℕ, ◌+◌, ◌<◌, ◌≤◌, ◌⊎◌, inl, inr, List, [], ◌∷◌, length, get_or, Bool, true, false, not, cond, ◌||◌, ◌&&◌, Option, Some, None, refl, sym, ◌∙◌, ap, arith, zero-add}
+use Rattle.std.specs.Prelude.{nat_lt, filter, position}
+use Rattle.std.specs.List.{list_any, list_all, find, range_with_len, position_or_len}
+use Rattle.std.proofs.lemmas.Bool.{false≢true, true≢false, cases_order, not-true, ltb-false}
 use Rattle.std.proofs.lemmas.List.FromFn.{get_or-map-range_with_len, length-map-range_with_len}
 use Rattle.std.proofs.lemmas.List.Quantifiers.{position-Some}
-use Rattle.std.proofs.lemmas.List.Sums.{prefix_len_passes, prefix_len-le-length}
+use Rattle.std.proofs.lemmas.List.Sums.{prefix_len_passes}
 use Rattle.reo_growth.specs.declared.marks.Mark.{Mark}
 use Rattle.reo_growth.specs.declared.marks.Mark.TheVariants.{Absent, Open, Listed, Unknown, Silent, Fires}
 use Rattle.reo_growth.specs.declared.web.Web.{Web}
@@ -14,7 +14,7 @@ use Rattle.reo_growth.specs.Web.{names_of, IsWeb}
 use Rattle.reo_growth.specs.Growth.{Vertex, fired, known, same, is_listed, is_open, least_open, agrees_as_one, fits, places, firing_names}
 use Rattle.reo_growth.specs.Marks.{allows, is_open_mark, is_fires, automaton_mark, name_mark, automaton_marks, name_marks}
 use Rattle.reo_growth.specs.Found.{fired_places}
-use Rattle.reo_growth.proofs.ListLemmas.{among_at, among_has, range_gives, find_gives, find_fails, all_among}
+use Rattle.reo_growth.proofs.ListLemmas.{among_has, range_gives, find_gives, find_fails, all_among}
 
 all_same : {A : Type 0} (p q : A → Bool) (xs : List A) → ((x : A) → Among x xs → p x ≡ q x) → list_all p xs ≡ list_all q xs
 all_same p q [] h = refl
@@ -53,6 +53,7 @@ module _ (w : Web) (v : Vertex) where
     where
       size : length (automaton_marks w v) ≡ length w.automata
       size = length-map-range_with_len (automaton_mark w v) 0 (length w.automata)
+
       go : (a : Option ℕ) → position is_open_mark (automaton_marks w v) ≡ a → (b : Option ℕ) → find (is_open w v) (places w) ≡ b → a ≡ b
       go None first None second = refl
       go None first (Some y) second =
@@ -95,8 +96,8 @@ module _ (w : Web) (v : Vertex) where
       ap fired_places is
       ∙ ap (λ n. filter (λ name. is_fires (get_or (name_marks w v) name Unknown)) (range_with_len 0 n)) (length-map-range_with_len (name_mark w v) 0 w.names)
       ∙ filter_same (λ name. is_fires (get_or (name_marks w v) name Unknown)) (fired v) (range_with_len 0 w.names) (λ name at.
-        let r = range_gives 0 w.names name at in
-        ap is_fires (name_at name Unknown (omega (arith, r.1))) ∙ fires_mark name)
+      let r = range_gives 0 w.names name at in
+      ap is_fires (name_at name Unknown (omega (arith, r.1))) ∙ fires_mark name)
 
   -- whether a link agrees can be read off the marks
   pub agrees_read : (marks : List Mark) → marks ≡ name_marks w v → (x : ℕ) (link names : List ℕ) → names ≡ names_of w x → IsWeb w → ((name : ℕ) → fired v name ≡ true → known w v name ≡ true)
@@ -105,9 +106,9 @@ module _ (w : Web) (v : Vertex) where
   agrees_read marks is x link names are is_web knows =
       ap (list_all (λ name. allows (get_or marks name Unknown) (has link name))) are
       ∙ all_same (λ name. allows (get_or marks name Unknown) (has link name)) (λ name. not (known w v name) || same (has link name) (fired v name)) (names_of w x) (λ name at.
-        let below = is_web.below x name (among_has (names_of w x) name at) in
-        ap (λ m. allows m (has link name)) (ap (λ ms. get_or ms name Unknown) is ∙ name_at name Unknown below)
-        ∙ go (fired v name) (known w v name) (has link name) (knows name))
+      let below = is_web.below x name (among_has (names_of w x) name at) in
+      ap (λ m. allows m (has link name)) (ap (λ ms. get_or ms name Unknown) is ∙ name_at name Unknown below)
+      ∙ go (fired v name) (known w v name) (has link name) (knows name))
     where
       go : (f k b : Bool) → (f ≡ true → k ≡ true) → allows (cond f Fires (cond k Silent Unknown)) b ≡ (not k || same b f)
       go true true true know = refl
@@ -122,6 +123,6 @@ module _ (w : Web) (v : Vertex) where
   unfolding fits
   fits_read marks is is_web =
       all_same (λ cell. not (is_fires (get_or marks cell.0 Unknown) && is_fires (get_or marks cell.1 Unknown))) (λ cell. not (fired v cell.0 && fired v cell.1)) w.cells (λ cell at.
-        let ends = all_among (λ cell. (cell.0 < w.names) × (cell.1 < w.names)) w.cells is_web.ends cell at in
-        let one = λ (name : ℕ) (below : name < w.names). ap is_fires (ap (λ ms. get_or ms name Unknown) is ∙ name_at name Unknown below) ∙ fires_mark name in
-        ap (λ b. not (b && is_fires (get_or marks cell.1 Unknown))) (one cell.0 ends.0) ∙ ap (λ b. not (fired v cell.0 && b)) (one cell.1 ends.1))
+      let ends = all_among (λ cell. (cell.0 < w.names) × (cell.1 < w.names)) w.cells is_web.ends cell at in
+      let one = λ (name : ℕ) (below : name < w.names). ap is_fires (ap (λ ms. get_or ms name Unknown) is ∙ name_at name Unknown below) ∙ fires_mark name in
+      ap (λ b. not (b && is_fires (get_or marks cell.1 Unknown))) (one cell.0 ends.0) ∙ ap (λ b. not (fired v cell.0 && b)) (one cell.1 ends.1))

@@ -1,13 +1,13 @@
 -- The search from all roots.
-use Rattle.std.proofs.Common.{◌≡◌, ℕ, zero, suc, ◌+◌, ◌*◌, ◌-◌, ◌^◌, ◌<◌, ◌≤◌, List, [], ◌∷◌, ◌++◌, length, map, Bool, true, false, refl, sym, ◌∙◌, ap, subst, arith, add-one, zero-add, length-append, append-nil}
+use Rattle.std.proofs.Common.{◌≡◌, ℕ, ◌+◌, ◌*◌, ◌-◌, ◌^◌, ◌<◌, ◌≤◌, List, [], ◌∷◌, ◌++◌, length, map, sym, ◌∙◌, ap, subst, arith, add-one, zero-add, length-append, append-nil}
 use Rattle.std.specs.Prelude.{flat_map}
 use Rattle.std.specs.List.{range_with_len}
 use Rattle.std.proofs.lemmas.List.Concat.{flat_map-append}
 use Rattle.std.proofs.Math.Nat.{mul-le-mul}
 use Rattle.reo_growth.specs.declared.found.Found.{Found}
 use Rattle.reo_growth.specs.declared.web.Web.{Web}
-use Rattle.reo_growth.specs.Growth.{Vertex, places, vertices_of, vertices, growth_count, complete_ones, extended, grown}
-use Rattle.reo_growth.specs.Found.{rows_of, row_of_vertex, WentOver, Went}
+use Rattle.reo_growth.specs.Growth.{Vertex, vertices_of, vertices, growth_count, complete_ones, extended, grown}
+use Rattle.reo_growth.specs.Found.{rows_of, row_of_vertex, WentOver}
 use Rattle.reo_growth.specs.Search.{Covers}
 use Rattle.reo_growth.proofs.ListLemmas.{range_more, range_split}
 use Rattle.reo_growth.proofs.WentLemmas.{went_none, went_more, stopped}
@@ -35,9 +35,9 @@ module _ (w : Web) where
   unfolding vertices_before growth_count vertices
   before_bound root h =
       let split = ap (λ n. length (flat_map (vertices_of w) (range_with_len 0 n))) (let e : length w.automata ≡ root + (length w.automata - root) = omega arith in e)
-          ∙ ap (λ xs. length (flat_map (vertices_of w) xs)) (range_split 0 root (length w.automata - root))
-          ∙ ap length (flat_map-append (vertices_of w) (range_with_len 0 root) (range_with_len (0 + root) (length w.automata - root)))
-          ∙ length-append (flat_map (vertices_of w) (range_with_len 0 root)) (flat_map (vertices_of w) (range_with_len (0 + root) (length w.automata - root))) in
+      ∙ ap (λ xs. length (flat_map (vertices_of w) xs)) (range_split 0 root (length w.automata - root))
+      ∙ ap length (flat_map-append (vertices_of w) (range_with_len 0 root) (range_with_len (0 + root) (length w.automata - root)))
+      ∙ length-append (flat_map (vertices_of w) (range_with_len 0 root)) (flat_map (vertices_of w) (range_with_len (0 + root) (length w.automata - root))) in
       omega arith
 
   pub search_over : (root : ℕ) (a b : Found) → root < length w.automata → a.room ≡ 65536 → WentOver w (vertices_before root) a b → b.room < length (flat_map (grown w root (length w.automata)) (extended w [] root)) → 65536 < growth_count w

@@ -1,15 +1,15 @@
 -- What is true of each vertex; and so where no automaton is open, what fires in it is a connected firing.
-use Rattle.std.proofs.Common.{◌≡◌, ℕ, zero, suc, ◌+◌, ◌<◌, ◌≤◌, ◌⊎◌, inl, inr, List, [], ◌∷◌, length, Bool, true, false, not, cond, ◌||◌, Option, Some, None, refl, sym, ◌∙◌, ap, subst, arith}
-use Rattle.std.specs.Prelude.{nat_eq, nat_lt, flat_map}
-use Rattle.std.proofs.lemmas.Bool.{false≢true, true≢false, or_cases, or_from, or_left, or_right, eqb-true, eq-eqb, cases_Bool, ltb-false}
+use Rattle.std.proofs.Common.{◌≡◌, ℕ, zero, suc, ◌≤◌, inl, inr, List, [], ◌∷◌, length, Bool, true, false, cond, Option, Some, None, refl, sym, ◌∙◌, ap, subst, arith}
+use Rattle.std.specs.Prelude.{nat_eq, nat_lt}
+use Rattle.std.proofs.lemmas.Bool.{or_left, or_right, eq-eqb, ltb-false}
 use Rattle.reo_growth.specs.declared.web.Web.{Web}
 use Rattle.reo_growth.specs.Lists.{has, Among}
 use Rattle.reo_growth.specs.Web.{names_of, links_of, IsWeb, Moves, FiresAs, Together, here, joined, IsConnected}
 use Rattle.reo_growth.specs.Growth.{Move, Vertex, fired, is_listed, is_open, places, least_open, agrees, fits, with_link, extended, children_at, grown, vertices_of, vertices, is_complete}
 use Rattle.reo_growth.specs.Laws.{GrowsOnly}
 use Rattle.reo_growth.specs.Sound.{IsSound}
-use Rattle.reo_growth.proofs.ListLemmas.{same_tests, any_from, any_gives, flat_map_gives}
-use Rattle.reo_growth.proofs.VertexLemmas.{fired_from, fired_gives, listed_from, listed_gives, open_gives, least_gives, complete_lists, agrees_gives, fits_gives, IsExtended, extended_gives}
+use Rattle.reo_growth.proofs.ListLemmas.{same_tests, flat_map_gives}
+use Rattle.reo_growth.proofs.VertexLemmas.{fired_from, fired_gives, listed_gives, open_gives, least_gives, complete_lists, agrees_gives, fits_gives, extended_gives}
 
 module _ (w : Web) where
   -- what hangs together in a set does so in a wider one
@@ -35,7 +35,7 @@ module _ (w : Web) where
     fires_as root v sound move name at its =
         same_tests (fired v name) (has move.fires name)
         (λ fires. let f = fired_gives v name fires in
-          sound.agree move f.0 name at f.1 its (is_web.own f.0.automaton f.0.fires (sound.its f.0 f.1) name f.2) ∙ f.2)
+        sound.agree move f.0 name at f.1 its (is_web.own f.0.automaton f.0.fires (sound.its f.0 f.1) name f.2) ∙ f.2)
         (λ fires. fired_from v move name at fires)
 
     module _ (root : ℕ) (v : Vertex) (sound : IsSound w root v) (x : ℕ) (link : List ℕ) (its : Among link (links_of w x)) (agree : agrees w v x link ≡ true) (fit : fits w (with_link v x link) ≡ true) (above : root ≤ x) (opens : is_open w v x ≡ true) where
@@ -70,14 +70,18 @@ module _ (w : Web) where
           its_of : (move : Move) → Among move (new ∷ v) → Among move.fires (links_of w move.automaton)
           its_of move (inl is) = subst (λ (m : Move). Among m.fires (links_of w m.automaton)) is its
           its_of move (inr at) = sound.its move at
+
           above_of : (move : Move) → Among move (new ∷ v) → root ≤ move.automaton
           above_of move (inl is) = subst (λ (m : Move). root ≤ m.automaton) is above
           above_of move (inr at) = sound.above move at
+
           hangs_of : (move : Move) → Among move (new ∷ v) → Together w (fired (with_link v x link)) root move.automaton
           hangs_of move (inl is) = subst (λ (m : Move). Together w (fired (with_link v x link)) root m.automaton) is to_new
           hangs_of move (inr at) = wider (fired v) (fired (with_link v x link)) root move.automaton (fired_wider v x link) (sound.hangs move at)
+
           Agree : Move → Move → ℕ → Type 0
           Agree one other name = has (names_of w one.automaton) name ≡ true → has (names_of w other.automaton) name ≡ true → has one.fires name ≡ has other.fires name
+
           both : (one other : Move) (name : ℕ) → Among one (new ∷ v) → Among other (new ∷ v) → Agree one other name
           both one other name (inl is) (inl also) = let e : one ≡ other = sym is ∙ also in λ _ _. ap (λ (m : Move). has m.fires name) e
           both one other name (inl is) (inr at) = subst (λ m. Agree m other name) is (λ one_has other_has. agree_once other name at one_has other_has)
@@ -92,8 +96,9 @@ module _ (w : Web) where
       above = λ move at. elim at [ inl is ↦ subst (λ (m : Move). root ≤ m.automaton) is (omega arith) | inr never ↦ elim never [ ] ];
       root_is = or_left (nat_eq root root) false (eq-eqb root root refl);
       agree = λ one other name at_one at_other. elim at_one [
-          inl is ↦ elim at_other [ inl also ↦ (let same : one ≡ other = sym is ∙ also in λ _ _. ap (λ (m : Move). has m.fires name) same) | inr never ↦ elim never [ ] ]
-        | inr never ↦ elim never [ ] ];
+        | inl is ↦ elim at_other [ inl also ↦ (let same : one ≡ other = sym is ∙ also in λ _ _. ap (λ (m : Move). has m.fires name) same) | inr never ↦ elim never [ ] ]
+        | inr never ↦ elim never [ ]
+      ];
       fit = e.fit;
       hangs = λ move at. elim at [ inl is ↦ subst (λ (m : Move). Together w (fired (with_link [] root e.link)) root m.automaton) is here | inr never ↦ elim never [ ] ];
     })

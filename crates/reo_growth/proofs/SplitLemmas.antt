@@ -1,5 +1,5 @@
 -- A set that automata fire together splits into connected firings.
-use Rattle.std.proofs.Common.{◌≡◌, ℕ, ◌+◌, ◌<◌, ◌≤◌, ◌⊎◌, inl, inr, List, [], ◌∷◌, length, Bool, true, false, ◌&&◌, refl, sym, ◌∙◌, ap, subst, arith}
+use Rattle.std.proofs.Common.{◌≡◌, ℕ, List, length, Bool, true, ◌&&◌, ◌∙◌, arith}
 use Rattle.std.specs.List.{list_any}
 use Rattle.std.proofs.lemmas.Bool.{and_parts, and_from}
 use Rattle.reo_graph.specs.Paths.{Path}
@@ -7,8 +7,8 @@ use Rattle.reo_graph.specs.Paths.Path.{one, more}
 use Rattle.reo_graph.specs.Closure.{goes, AreBelow}
 use Rattle.reo_graph.proofs.ClosureLemmas.{closure_decides}
 use Rattle.reo_growth.specs.declared.web.Web.{Web}
-use Rattle.reo_growth.specs.Lists.{has, Among}
-use Rattle.reo_growth.specs.Web.{names_of, Moves, FiresAs, Together, here, joined, IsConnected}
+use Rattle.reo_growth.specs.Lists.{has}
+use Rattle.reo_growth.specs.Web.{names_of, Moves, FiresAs, Together, here, joined}
 use Rattle.reo_growth.specs.Growth.{places}
 use Rattle.reo_growth.specs.Laws.{IsJointFiring, IsPart, SplitsIntoParts, PartsShareNothing}
 use Rattle.reo_growth.proofs.ListLemmas.{same_tests, any_from, any_gives, has_among, among_has, among_range}
@@ -86,11 +86,13 @@ module _ (w : Web) (F : ℕ → Bool) where
 
     fires_link : (y : ℕ) → Moves w part y → (link : List ℕ) × FiresAs w part y link
     fires_link y m =
-        let link = joint.each y (record { name = m.name; its = m.its; fires = (part_gives m.name m.fires).0 }) in
-        (link.0, record {
-          its = link.1.its;
-          same = λ name its. same_tests (part name) (F name) (λ h. (part_gives name h).0) (λ fires. part_closed y m.name name m.its m.fires its fires) ∙ link.1.same name its;
-        })
+        let link = joint.each y (record { name = m.name; its = m.its; fires = (part_gives m.name m.fires).0 }) in (
+          link.0,
+          record {
+            its = link.1.its;
+            same = λ name its. same_tests (part name) (F name) (λ h. (part_gives name h).0) (λ fires. part_closed y m.name name m.its m.fires its fires) ∙ link.1.same name its;
+          },
+        )
 
     pub is_part : IsPart w F x part
     is_part = record {

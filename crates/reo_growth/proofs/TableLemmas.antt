@@ -1,19 +1,18 @@
 -- The holders of names, and the marks of the list with no automaton.
-use Rattle.std.proofs.Common.{◌≡◌, ℕ, zero, suc, ◌+◌, ◌-◌, ◌<◌, ◌⊎◌, inl, inr, List, [], ◌∷◌, ◌++◌, length, map, take, All, get_or, Bool, true, false, cond, ◌||◌, ◌&&◌, refl, sym, ◌∙◌, ap, subst, arith, replicate}
+use Rattle.std.proofs.Common.{◌≡◌, ℕ, zero, suc, ◌+◌, ◌-◌, ◌<◌, ◌⊎◌, inl, inr, List, [], ◌∷◌, ◌++◌, length, map, take, get_or, Bool, true, false, cond, ◌||◌, ◌&&◌, refl, sym, ◌∙◌, ap, arith, replicate}
 use Rattle.std.specs.Prelude.{nat_eq, nat_lt}
 use Rattle.std.specs.List.{list_any, range_with_len}
-use Rattle.std.proofs.lemmas.Bool.{false≢true, true≢false, eqb-true, eq-eqb, cases_Bool, cases_order, lt-ltb, le-ltb, ltb-true, ltb-false, ne_eqb, and_parts}
+use Rattle.std.proofs.lemmas.Bool.{false≢true, eq-eqb, cases_Bool, cases_order, lt-ltb, le-ltb, ne_eqb, and_parts}
 use Rattle.std.proofs.lemmas.List.{get_or_default, take_all, length-replicate}
-use Rattle.std.proofs.lemmas.Bool.Decides.{nat_tests}
 use Rattle.reo_growth.specs.declared.marks.Mark.{Mark}
 use Rattle.reo_growth.specs.declared.marks.Mark.TheVariants.{Absent, Open, Unknown}
 use Rattle.reo_growth.specs.declared.web.Web.{Web}
-use Rattle.reo_growth.specs.Lists.{has, Among}
+use Rattle.reo_growth.specs.Lists.{has}
 use Rattle.reo_growth.specs.Web.{names_of}
-use Rattle.reo_growth.specs.Growth.{fired, known, is_listed, places}
-use Rattle.reo_growth.specs.Marks.{AreBelow, AreHolders, automaton_mark, name_mark, automaton_marks, name_marks, marks_of, holders_at}
+use Rattle.reo_growth.specs.Growth.{fired, known, is_listed}
+use Rattle.reo_growth.specs.Marks.{AreHolders, automaton_mark, name_mark, name_marks, marks_of, holders_at}
 use Rattle.reo_growth.specs.Search.{AddsHolder}
-use Rattle.reo_growth.proofs.ListLemmas.{same_tests, among_at, among_has}
+use Rattle.reo_growth.proofs.ListLemmas.{same_tests}
 use Rattle.reo_growth.proofs.VertexLemmas.{name_within}
 use Rattle.reo_growth.proofs.MarkLemmas.{below_from}
 
@@ -50,8 +49,8 @@ module _ (w : Web) where
   are_holders x table all long have = record {
     long = long;
     below = λ name d within. below_from (length w.automata) (get_or table name d) (λ y h.
-      let at = sym (have y name (omega arith)) ∙ ap (λ holders. has holders y) (get_or_default table name [] d within) ∙ h in
-      name_within w y name (and_parts (nat_lt y x) (has (names_of w y) name) at).1);
+        let at = sym (have y name (omega arith)) ∙ ap (λ holders. has holders y) (get_or_default table name [] d within) ∙ h in
+        name_within w y name (and_parts (nat_lt y x) (has (names_of w y) name) at).1);
     have = λ y name below. have y name below ∙ whole y name (cases_Bool (has (names_of w y) name));
   }
     where

@@ -1,15 +1,15 @@
 -- What fires in a partial firing, which automata are in it, open in it, and agree with it.
-use Rattle.std.proofs.Common.{◌≡◌, ℕ, zero, suc, ◌+◌, ◌<◌, ◌≤◌, ◌⊎◌, inl, inr, List, [], ◌∷◌, length, map, Bool, true, false, not, cond, ◌&&◌, ◌||◌, Option, Some, None, is_some, slice_get, refl, sym, ◌∙◌, ap, subst, arith}
-use Rattle.std.specs.Prelude.{nat_eq, nat_lt, filter, flat_map}
-use Rattle.std.specs.List.{list_any, list_all, find, range_with_len}
+use Rattle.std.proofs.Common.{◌≡◌, ℕ, zero, suc, ◌<◌, ◌⊎◌, inl, inr, List, [], ◌∷◌, length, Bool, true, false, not, ◌&&◌, ◌||◌, Option, Some, None, is_some, slice_get, refl, sym, ◌∙◌, arith}
+use Rattle.std.specs.Prelude.{nat_eq, filter}
+use Rattle.std.specs.List.{list_any, find}
 use Rattle.std.specs.Option.{option_map_or}
-use Rattle.std.proofs.lemmas.Bool.{false≢true, true≢false, and_parts, and_from, or_cases, or_from, or_left, or_right, or_parts, eqb-true, eq-eqb, cases_Bool, not-true, not_from_false, not_from_true, le-ltb}
+use Rattle.std.proofs.lemmas.Bool.{false≢true, true≢false, and_parts, and_from, eqb-true, eq-eqb, cases_Bool, not-true, not_from_false}
 use Rattle.reo_growth.specs.declared.web.Automaton.{Automaton}
 use Rattle.reo_growth.specs.declared.web.Web.{Web}
 use Rattle.reo_growth.specs.Lists.{has, Among}
 use Rattle.reo_growth.specs.Web.{names_of, links_of}
-use Rattle.reo_growth.specs.Growth.{Move, Vertex, fired, is_listed, is_open, places, least_open, same, agrees_with, agrees, fits, with_link, extended, children_at, is_complete}
-use Rattle.reo_growth.proofs.ListLemmas.{any_from, any_gives, all_gives, all_from, among_filter, filter_gives, among_map, map_gives, among_range, find_gives, find_fails, has_among, among_has}
+use Rattle.reo_growth.specs.Growth.{Move, Vertex, fired, is_listed, is_open, places, least_open, same, agrees_with, agrees, fits, with_link, extended, is_complete}
+use Rattle.reo_growth.proofs.ListLemmas.{any_from, any_gives, all_gives, all_from, among_filter, filter_gives, among_map, map_gives, find_gives, find_fails, has_among, among_has}
 
 pub fired_from : (v : Vertex) (move : Move) (name : ℕ) → Among move v → has move.fires name ≡ true → fired v name ≡ true
 unfolding fired
@@ -107,9 +107,9 @@ pub agrees_from : (w : Web) (v : Vertex) (x : ℕ) (link : List ℕ)
 unfolding agrees agrees_with
 agrees_from w v x link h =
     all_from (agrees_with w x link) v (λ move at.
-      all_from (λ name. not (has (names_of w move.automaton) name) || same (has link name) (has move.fires name)) (names_of w x) (λ name its.
-        implies (has (names_of w move.automaton) name) (same (has link name) (has move.fires name)) (λ theirs.
-          same_from (has link name) (has move.fires name) (h move name at (among_has (names_of w x) name its) theirs))))
+    all_from (λ name. not (has (names_of w move.automaton) name) || same (has link name) (has move.fires name)) (names_of w x) (λ name its.
+    implies (has (names_of w move.automaton) name) (same (has link name) (has move.fires name)) (λ theirs.
+    same_from (has link name) (has move.fires name) (h move name at (among_has (names_of w x) name its) theirs))))
 
 not_both : (a b : Bool) → not (a && b) ≡ true → a ≡ true → b ≡ true → ⊥
 not_both true true h is also = false≢true h

@@ -1,6 +1,6 @@
 -- How what growth has found adds up over lists of vertices.
-use Rattle.std.proofs.Common.{◌≡◌, ℕ, zero, suc, ◌+◌, ◌<◌, ◌≤◌, List, [], ◌∷◌, ◌++◌, length, map, take, drop, get_or, Bool, true, false, cond, ◌&&◌, Option, Some, None, refl, sym, ◌∙◌, ap, subst, arith, append_assoc, length-append, append-nil, add-one}
-use Rattle.std.specs.Prelude.{filter, flat_map, nat_lt}
+use Rattle.std.proofs.Common.{◌≡◌, ℕ, zero, suc, ◌+◌, ◌<◌, ◌≤◌, List, [], ◌∷◌, ◌++◌, length, map, take, drop, get_or, Bool, true, false, cond, ◌&&◌, Some, None, refl, sym, ◌∙◌, ap, arith, append_assoc, length-append, append-nil, add-one}
+use Rattle.std.specs.Prelude.{filter, flat_map}
 use Rattle.std.proofs.lemmas.List.{map-append, take_more, take-append-drop}
 use Rattle.std.proofs.lemmas.List.Concat.{flat_map-append}
 use Rattle.std.proofs.lemmas.List.Elements.{filter-append}
@@ -30,6 +30,7 @@ module _ (w : Web) where
     where
       lengths : length (complete_ones w (xs ++ ys)) ≡ length (complete_ones w xs) + length (complete_ones w ys)
       lengths = ap length (complete-append xs ys) ∙ length-append (complete_ones w xs) (complete_ones w ys)
+
       sum : a.count + length (complete_ones w xs) + length (complete_ones w ys) ≡ a.count + length (complete_ones w (xs ++ ys))
       sum = omega (arith, lengths)
 

@@ -1,6 +1,6 @@
 -- Words that mirror the code of growth: what it marks of a partial firing.
-use Rattle.std.specs.Prelude.{◌≡◌, ℕ, ◌+◌, ◌<◌, List, [], ◌∷◌, ◌++◌, length, map, slice_index_or, Bool, true, false, not, ◌&&◌, if◌then◌else◌, All}
-use Rattle.std.specs.List.{list_any, list_all, range_with_len}
+use Rattle.std.specs.Prelude.{◌≡◌, ℕ, ◌<◌, List, [], ◌++◌, length, map, slice_index_or, Bool, true, false, not, if◌then◌else◌, All}
+use Rattle.std.specs.List.{list_any, range_with_len}
 use Rattle.reo_growth.specs.declared.marks.Mark.{Mark}
 use Rattle.reo_growth.specs.declared.marks.Mark.TheVariants.{Absent, Open, Listed, Unknown, Silent, Fires}
 use Rattle.reo_growth.specs.declared.web.Web.{Web}

@@ -1,6 +1,5 @@
 -- Words that mirror the code of growth: the search from all roots.
-use Rattle.std.specs.Prelude.{◌≡◌, ℕ, ◌+◌, ◌<◌, ◌≤◌, List, [], length, map, Option, Some, None, flat_map, take, nat_eq, ◌||◌, ◌&&◌, Bool}
-use Rattle.std.specs.List.{range_with_len}
+use Rattle.std.specs.Prelude.{◌≡◌, ℕ, ◌+◌, ◌<◌, ◌≤◌, List, [], length, map, Option, Some, None, nat_eq, ◌||◌, ◌&&◌}
 use Rattle.reo_growth.specs.declared.web.Web.{Web}
 use Rattle.reo_growth.specs.declared.found.Found.{Found}
 use Rattle.reo_growth.specs.declared.found.Row.{Row}
@@ -9,7 +8,7 @@ use Rattle.std.specs.declared.cmp.Ordering.{Ordering}
 use Rattle.std.specs.Cmp.Lexicographic.{slice_cmp}
 use Rattle.std.specs.List.Sorted.{IsStrictlySortedBy}
 use Rattle.reo_growth.specs.Lists.{has, Among}
-use Rattle.reo_growth.specs.Growth.{vertices, vertices_of, growth_count, complete_ones}
+use Rattle.reo_growth.specs.Growth.{vertices, growth_count, complete_ones}
 use Rattle.reo_growth.specs.Found.{rows_of, row_of_vertex}
 use Rattle.reo_growth.specs.Marks.{holders_at}
 

@@ -1,9 +1,9 @@
 -- Words that mirror the code of growth: what it knows of the list that it makes wider.
-use Rattle.std.specs.Prelude.{◌≡◌, ℕ, ◌≤◌, List, [], ◌∷◌, ◌++◌, map, filter, flat_map, Bool, true, ◌&&◌}
+use Rattle.std.specs.Prelude.{◌≡◌, ℕ, ◌≤◌, List, map, filter, true, ◌&&◌}
 use Rattle.reo_growth.specs.declared.web.Web.{Web}
 use Rattle.reo_growth.specs.Lists.{has, Among}
 use Rattle.reo_growth.specs.Web.{names_of, links_of, Together}
-use Rattle.reo_growth.specs.Growth.{Move, Vertex, fired, is_listed, known, agrees, agrees_as_one, fits, with_link, extended, grown}
+use Rattle.reo_growth.specs.Growth.{Move, Vertex, fired, is_listed, known, agrees, agrees_as_one, fits, with_link, extended}
 
 -- what is true of each vertex
 pub record IsSound (w : Web) (root : ℕ) (v : Vertex) : Type 0 where

@@ -29,7 +29,7 @@ fn row_of(alloc: Global, marks: &[Mark]) -> Result<Row, AllocError>
     requires { length marks.now < 2 ^ 32 }
     ensures { IfOk result (λ row. seen row ≡ ranked (length marks.now) (fired_places marks.now)) }
 {
-    let mut names = Vec::new(alloc);
+    let mut names = Vec::with_capacity(alloc, marks.len())?;
     for (name, mark) in marks.iter().enumerate() {
         if fires(*mark) {
             names.push(name as u32)?;

@@ -129,7 +129,10 @@ fn search(alloc: Global, ground: &Ground) -> Result<Option<Found>, AllocError>
 fn names_of_rows(alloc: Global, rows: Vec<Row>) -> Result<Items<Items<u32>>, AllocError>
     ensures { IfOk result (λ lists. lists ≡ map names_in rows.items) }
 {
-    let lists = rows.into_iter().map(|row| Items::from_vec(row.names)).collect(alloc)?;
+    let lists = rows
+        .into_iter()
+        .map(|row| Items::from_vec(row.names))
+        .collect(alloc)?;
     Ok(Items::from_vec(lists))
 }
 

@@ -1,18 +1,17 @@
-use Rattle.std.proofs.Common.{◌≡◌, ℕ, ◌+◌, ◌-◌, ◌*◌, ◌^◌, ◌<◌, ◌≤◌, ◌⊎◌, inl, inr, List, [], ◌∷◌, ◌++◌, length, take, drop, get_or, Bool, true, false, not, ◌&&◌, Option, Some, None, subst, sym, ap, refl, ◌∙◌, arith}
+use Rattle.std.proofs.Common.{◌≡◌, ◌+◌, ◌-◌, ◌*◌, ◌^◌, ◌<◌, ◌≤◌, ◌⊎◌, inl, inr, List, [], ◌∷◌, length, take, drop, true, false, subst, sym, ap, refl, ◌∙◌, arith}
 use Rattle.std.specs.Prelude.{flat_map}
-use Rattle.std.proofs.lemmas.Bool.{not-true, not-false, cases_Bool, and_left, and_right}
+use Rattle.std.proofs.lemmas.Bool.{and_left, and_right}
 use Rattle.std.proofs.lemmas.List.{get_or_default, length-take, length-drop, take_all}
 use Rattle.reo_growth.specs.declared.web.Automaton.{Automaton}
 use Rattle.reo_growth.specs.Lists.{Among}
-use Rattle.reo_growth.specs.Web.{names_of, links_of}
-use Rattle.reo_growth.specs.Growth.{Vertex, agrees, fits, with_link, extended, grown, least_open}
-use Rattle.reo_growth.specs.Marks.{AreBelow, marks_of}
+use Rattle.reo_growth.specs.Web.{links_of}
+use Rattle.reo_growth.specs.Growth.{Vertex, agrees, fits, with_link, grown}
+use Rattle.reo_growth.specs.Marks.{AreBelow}
 use Rattle.reo_growth.specs.Found.{Went, WentOver}
-use Rattle.reo_growth.specs.Sound.{IsReady, IsSound, widened}
+use Rattle.reo_growth.specs.Sound.{widened}
 use Rattle.reo_growth.proofs.ListLemmas.{among_at}
-use Rattle.reo_growth.proofs.MarkLemmas.{names_at, links_at, own_below, back_of}
-use Rattle.reo_growth.proofs.ReadLemmas.{fits_read}
-use Rattle.reo_growth.proofs.WentLemmas.{room_for_one, went_on, stopped, from_more, from_front}
+use Rattle.reo_growth.proofs.MarkLemmas.{names_at, links_at, own_below}
+use Rattle.reo_growth.proofs.WentLemmas.{room_for_one, stopped, from_more, from_front}
 use Rattle.reo_growth.proofs.EngineLemmas.{goes_complete, goes_no_further, goes_on, tail_is, agrees_said, fits_said, no_child, one_child, child_sound, extended_is}
 use Rattle.reo_growth.proofs.engine.+growth.Goals as goal
 use Rattle.reo_growth.proofs.engine.+growth.Goals.{grow-then-left-eq0-via-then-left-eq0, grow-then-left-eq0-via-else-left-eq0+then-x-root}
@@ -52,7 +51,7 @@ grow_child-agrees-requires t c =
     let w = c.args.ground.now.web in
     let names = names_at w c.args.x c.as_slice.result.now c.index-as_slice-x.result c.requires.within c.as_slice.ensures ∙ sym c.as_slice-names.ensures in
     let long : length (take (length c.args.marks.now - c.len-count.result) (drop c.len-count.result c.args.marks.now)) ≡ w.names =
-        omega (arith, length-take (length c.args.marks.now - c.len-count.result) (drop c.len-count.result c.args.marks.now), length-drop c.len-count.result c.args.marks.now) in
+    omega (arith, length-take (length c.args.marks.now - c.len-count.result) (drop c.len-count.result c.args.marks.now), length-drop c.len-count.result c.args.marks.now) in
     subst (λ n. AreBelow n c.as_slice-names.result.now) (sym long) (subst (AreBelow w.names) names (own_below w c.requires.ground.is_web c.args.x))
 
 pub grow_child-returns-then-not-agrees-clause-went : goal.grow_child-returns-then-not-agrees-clause-went
@@ -115,8 +114,8 @@ widen-grow_child-requires t c =
     let w = c.args.ground.now.web in
     let links = links_at w c.args.x c.as_slice.result.now c.index-as_slice-x.result c.requires.within c.as_slice.ensures ∙ sym (c.as_slice-link-items.ensures ∙ ap (λ (a : Automaton). a.links) c.index-as_slice-x.is) in
     let its : Among c.as_slice-in-loop-link.result.now (links_of w c.args.x) =
-        subst (Among c.as_slice-in-loop-link.result.now) (sym links)
-        (subst (λ link. Among link c.as_slice-link-items.result.now) (sym (c.as_slice-in-loop-link.ensures ∙ c.link-item.is)) (among_at c.as_slice-link-items.result.now c.loop-link.link-index _ c.loop-link-test.true)) in
+    subst (Among c.as_slice-in-loop-link.result.now) (sym links)
+    (subst (λ link. Among link c.as_slice-link-items.result.now) (sym (c.as_slice-in-loop-link.ensures ∙ c.link-item.is)) (among_at c.as_slice-link-items.result.now c.loop-link.link-index _ c.loop-link-test.true)) in
     let deep = subst (λ n. (c.args.left + 1) * length c.args.marks.now ≤ n) (sym c.loop-link.auto.deeper) c.requires.deep in
     let room : c.loop-link.found.count + c.loop-link.found.room < 2 ^ 32 = omega (arith, c.loop-link.invariant.room, c.requires.room) in
     (omega (arith, c.decreases), (c.requires.ground, (c.requires.within, (its, (c.requires.long, (deep, room))))))

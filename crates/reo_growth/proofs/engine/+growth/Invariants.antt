@@ -1,4 +1,4 @@
-use Rattle.std.proofs.Common.{◌≡◌, ℕ, ◌+◌, ◌*◌, ◌≤◌, length, take}
+use Rattle.std.proofs.Common.{◌≡◌, ◌+◌, ◌*◌, ◌≤◌, take}
 use Rattle.std.specs.Prelude.{flat_map}
 use Rattle.reo_growth.specs.Growth.{Vertex, grown}
 use Rattle.reo_growth.specs.Marks.{marks_of}

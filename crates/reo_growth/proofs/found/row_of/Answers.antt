@@ -1,4 +1,4 @@
-use Rattle.std.proofs.Common.{◌≡◌, ◌+◌, Bool, true, false, cond, List, [], ◌∷◌, ◌++◌, get_or, ap, sym, ◌∙◌, arith}
+use Rattle.std.proofs.Common.{cond, [], ◌∷◌, ◌++◌, get_or, ap, sym, ◌∙◌, arith}
 use Rattle.std.specs.Prelude.{filter}
 use Rattle.std.specs.List.{range_with_len}
 use Rattle.std.proofs.lemmas.Grind.{common_steps}
@@ -16,7 +16,7 @@ loop-name-preserved c =
     let at = c.fires.ensures ∙ ap is_fires (get_or_default marks i _ Unknown c.loop-name-test.true) in
     let more = filter-range_more (λ name. is_fires (get_or marks name Unknown)) i in
     elim c.if-fires.branch [
-        then-fires+in_ok-push w ↦ (let fires = sym at ∙ w.if-fires.true in
+      | then-fires+in_ok-push w ↦ (let fires = sym at ∙ w.if-fires.true in
           let whole = more ∙ ap (λ b. filter (λ name. is_fires (get_or marks name Unknown)) (range_with_len 0 i) ++ cond b (i ∷ []) []) fires in
           rw w.names-is (record { names = grind (arith, common_steps, whole, c.loop-name.invariant.names); few = grind (arith, common_steps) }))
       | else-fires w ↦ (let silent = sym at ∙ w.if-fires.false in

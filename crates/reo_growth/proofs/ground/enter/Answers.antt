@@ -1,9 +1,5 @@
-use Rattle.std.proofs.Common.{◌≡◌, ℕ, ◌+◌, ◌<◌, List, length, take, drop, get_or, subst, sym, ap, ◌∙◌, arith}
-use Rattle.reo_growth.specs.declared.marks.Mark.{Mark}
-use Rattle.reo_growth.specs.declared.marks.Mark.TheVariants.{Fires}
-use Rattle.reo_growth.specs.declared.web.Automaton.{Automaton}
+use Rattle.std.proofs.Common.{◌≡◌, length, take, drop, subst, sym, ap, ◌∙◌, arith}
 use Rattle.reo_growth.specs.Lists.{has}
-use Rattle.reo_growth.specs.Web.{names_of}
 use Rattle.reo_growth.specs.Marks.{AreBelow, Changes, met, opened, is_held}
 use Rattle.reo_growth.proofs.MarkLemmas.{names_at, own_below, link_below, entered}
 use Rattle.reo_growth.proofs.ground.enter.Goals as goal

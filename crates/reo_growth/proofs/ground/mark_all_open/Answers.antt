@@ -1,4 +1,4 @@
-use Rattle.std.proofs.Common.{◌+◌, length, take, get_or, refl, ◌∙◌}
+use Rattle.std.proofs.Common.{◌+◌, take, get_or, refl, ◌∙◌}
 use Rattle.std.proofs.lemmas.List.{get_or_default}
 use Rattle.reo_growth.specs.Lists.{has}
 use Rattle.reo_growth.specs.Marks.{is_held, opened}

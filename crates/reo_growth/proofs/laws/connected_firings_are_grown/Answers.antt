@@ -1,4 +1,3 @@
-use Rattle.reo_growth.specs.Laws.{GrowsAll, GrowsOnly, GrowsOnce}
 use Rattle.reo_growth.proofs.SoundLemmas.{grows_only}
 use Rattle.reo_growth.proofs.InsideLemmas.{grows_all}
 use Rattle.reo_growth.proofs.OnceLemmas.{grows_once}

@@ -1,8 +1,7 @@
-use Rattle.std.proofs.Common.{◌≡◌, ℕ, ◌+◌, ◌*◌, ◌<◌, ◌≤◌, ◌^◌, List, [], length, map, Bool, true, false, subst, sym, ap, refl, ◌∙◌, arith, length-append}
+use Rattle.std.proofs.Common.{◌≡◌, ◌<◌, [], length, subst, ap, ◌∙◌, arith}
 use Rattle.std.specs.Prelude.{flat_map}
 use Rattle.reo_growth.specs.Growth.{extended, grown}
 use Rattle.reo_growth.specs.Found.{Went, WentOver}
-use Rattle.reo_growth.specs.Search.{Covers}
 use Rattle.reo_growth.proofs.MarkLemmas.{length-marks_of}
 use Rattle.reo_growth.proofs.EngineLemmas.{ready_none}
 use Rattle.reo_growth.proofs.SearchLemmas.{vertices_before, search_none, search_more, search_over, search_all}
@@ -20,7 +19,7 @@ loop-root-preserved c =
     let all : c.len-count.result ≡ length w.automata = c.len-count.ensures in
     let root = c.loop-root.root in
     let went = subst (Went w (flat_map (grown w root c.len-count.result) (extended w [] root)) c.loop-root.found c.widen.new.found) c.if-not-branch.false
-        (c.in_ok-widen.ensures.went [] (ready_none w c.requires.ground.is_web root) c.requires.marks) in
+    (c.in_ok-widen.ensures.went [] (ready_none w c.requires.ground.is_web root) c.requires.marks) in
     record {
       bound = omega (arith, c.in_ok-widen.ensures.room, c.loop-root.invariant.bound);
       went = search_more w root _ c.loop-root.found c.widen.new.found c.loop-root.invariant.went
@@ -33,7 +32,7 @@ returns-then-not-branch c =
     let all : c.len-count.result ≡ length w.automata = c.len-count.ensures in
     let root = c.loop-root.root in
     let went = subst (Went w (flat_map (grown w root c.len-count.result) (extended w [] root)) c.loop-root.found c.widen.new.found) c.if-not-branch.true
-        (c.in_ok-widen.ensures.went [] (ready_none w c.requires.ground.is_web root) c.requires.marks) in
+    (c.in_ok-widen.ensures.went [] (ready_none w c.requires.ground.is_web root) c.requires.marks) in
     search_over w root _ c.loop-root.found (omega (arith, all, c.loop-root-test.true)) c.requires.fresh.room c.loop-root.invariant.went
     (subst (λ n. c.loop-root.found.room < length (flat_map (grown w root n) (extended w [] root))) all went)
 

@@ -1,4 +1,4 @@
-use Rattle.std.proofs.Common.{◌≡◌, length, subst, sym, ap, ◌∙◌, arith}
+use Rattle.std.proofs.Common.{length, subst, sym, ap, ◌∙◌, arith}
 use Rattle.reo_growth.specs.declared.web.Automaton.{Automaton}
 use Rattle.reo_growth.specs.Marks.{AreBelow, AreHolders}
 use Rattle.reo_growth.proofs.MarkLemmas.{names_at, own_below}
@@ -10,7 +10,7 @@ add_holder-requires c =
     let w = c.args.web.now in
     let at = ap length c.as_slice-automaton-items.ensures in
     let names = names_at w c.loop-x.x c.as_slice-automaton-items.result.now c.automaton-item.result (omega (arith, at, c.loop-x-test.true)) c.as_slice-automaton-items.ensures
-        ∙ ap (λ (a : Automaton). a.names) (sym c.automaton-item.is) ∙ sym c.as_slice.ensures in
+    ∙ ap (λ (a : Automaton). a.names) (sym c.automaton-item.is) ∙ sym c.as_slice.ensures in
     subst (λ n. AreBelow n c.as_slice.result.now) (sym c.loop-x.invariant.long) (subst (AreBelow w.names) names (own_below w c.requires.web c.loop-x.x))
 
 pub loop-x-preserved : goal.loop-x-preserved
@@ -18,7 +18,7 @@ loop-x-preserved c =
     let w = c.args.web.now in
     let at = ap length c.as_slice-automaton-items.ensures in
     let names = names_at w c.loop-x.x c.as_slice-automaton-items.result.now c.automaton-item.result (omega (arith, at, c.loop-x-test.true)) c.as_slice-automaton-items.ensures
-        ∙ ap (λ (a : Automaton). a.names) (sym c.automaton-item.is) ∙ sym c.as_slice.ensures in
+    ∙ ap (λ (a : Automaton). a.names) (sym c.automaton-item.is) ∙ sym c.as_slice.ensures in
     record {
       long = c.in_ok-add_holder.ensures.0 ∙ c.loop-x.invariant.long;
       have = holders_more w c.loop-x.x c.as_slice.result.now c.loop-x.table.items c.add_holder.new.table.items names c.loop-x.invariant.long c.in_ok-add_holder.ensures c.loop-x.invariant.have;

@@ -1,5 +1,4 @@
-use Rattle.std.proofs.Common.{◌≡◌, ℕ, ◌≤◌, arith, length, List, map, IfOk, Ok, Err, Result, subst, sym, ◌∙◌}
-use Rattle.std.specs.declared.alloc.AllocError.{AllocError}
+use Rattle.std.proofs.Common.{◌≡◌, ℕ, ◌≤◌, arith, length, List, map, subst, sym}
 use Rattle.std.proofs.lemmas.List.Filters.{dedup_is}
 use Rattle.std.proofs.lemmas.List.Sorted.{IsPermutation-sym}
 use Rattle.std.proofs.lemmas.Grind.{common_steps}
@@ -16,5 +15,5 @@ returns c =
     let there = c.in_ok-sort.ensures.permutation in
     if_ok (λ (lists : List (List ℕ)). lists ≡ map names_in c.dedup.new.self.items) (AreSortedRows c.args.rows.items)
     (λ lists is. subst (AreSortedRows c.args.rows.items) (sym is)
-      (sorted_rows c.args.rows.items c.sort.new.self.items c.dedup.new.self.items there (IsPermutation-sym c.args.rows.items c.sort.new.self.items there) c.in_ok-sort.ensures.sorted kept few))
+    (sorted_rows c.args.rows.items c.sort.new.self.items c.dedup.new.self.items there (IsPermutation-sym c.args.rows.items c.sort.new.self.items there) c.in_ok-sort.ensures.sorted kept few))
     c.names_of_rows.result c.names_of_rows.ensures

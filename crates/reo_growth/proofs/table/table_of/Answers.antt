@@ -1,4 +1,4 @@
-use Rattle.std.proofs.Common.{◌≡◌, ◌+◌, ◌<◌, ◌≤◌, inr, refl, subst, arith}
+use Rattle.std.proofs.Common.{◌≤◌, inr, refl, subst, arith}
 use Rattle.reo_growth.specs.Growth.{growth_count}
 use Rattle.reo_growth.specs.Search.{Covers, Searched}
 use Rattle.reo_growth.proofs.FiringLemmas.{is_table, has_firings}
