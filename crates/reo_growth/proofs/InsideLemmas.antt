@@ -10,60 +10,14 @@ use Rattle.reo_growth.specs.Web.{names_of, IsWeb, Moves, FiresAs, Together, here
 use Rattle.reo_growth.specs.Growth.{Move, Vertex, fired, is_listed, is_open, places, least_open, agrees, fits, with_link, extended, children_at, grown, vertices_of, vertices, is_complete}
 use Rattle.reo_growth.specs.Laws.{StandsFor, GrowsAll}
 use Rattle.reo_growth.proofs.ListLemmas.{same_tests, any_from, any_gives, among_flat_map, has_among, among_has, among_range, find_gives, find_fails}
+use Rattle.reo_growth.proofs.UnlistedLemmas.{unlisted, unlisted_bound, fewer}
 use Rattle.reo_growth.proofs.VertexLemmas.{fired_from, fired_gives, listed_gives, name_within, open_gives, least_gives, complete_lists, agrees_from, fits_from, extended_from}
-
--- how many of these numbers fail a test
-failing : (ℕ → Bool) → List ℕ → ℕ
-failing p [] = 0
-failing p (x ∷ xs) = cond (p x) 0 1 + failing p xs
-
-failing_bound : (p : ℕ → Bool) (xs : List ℕ) → failing p xs ≤ length xs
-unfolding failing
-failing_bound p [] = omega arith
-failing_bound p (x ∷ xs) = go (p x) (failing_bound p xs)
-  where
-    go : (b : Bool) → failing p xs ≤ length xs → cond b 0 1 + failing p xs ≤ length (x ∷ xs)
-    go true h = omega arith
-    go false h = omega arith
-
--- a weaker test fails no more often
-failing_less : (p q : ℕ → Bool) (xs : List ℕ) → ((x : ℕ) → p x ≡ true → q x ≡ true) → failing q xs ≤ failing p xs
-unfolding failing
-failing_less p q [] weaker = omega arith
-failing_less p q (x ∷ xs) weaker = go (p x) (q x) (weaker x) (failing_less p q xs weaker)
-  where
-    go : (a b : Bool) → (a ≡ true → b ≡ true) → failing q xs ≤ failing p xs → cond b 0 1 + failing q xs ≤ cond a 0 1 + failing p xs
-    go true true weak h = omega arith
-    go true false weak h = absurd (false≢true (weak refl))
-    go false true weak h = omega arith
-    go false false weak h = omega arith
-
-failing_lesser : (p q : ℕ → Bool) (xs : List ℕ) (x : ℕ) → ((x : ℕ) → p x ≡ true → q x ≡ true) → Among x xs → p x ≡ false → q x ≡ true → failing q xs < failing p xs
-unfolding failing
-failing_lesser p q [] x weaker at was is = elim at [ ]
-failing_lesser p q (y ∷ ys) x weaker (inl e) was is =
-    go (p y) (q y) (ap p e ∙ was) (ap q e ∙ is) (failing_less p q ys weaker)
-  where
-    go : (a b : Bool) → a ≡ false → b ≡ true → failing q ys ≤ failing p ys → cond b 0 1 + failing q ys < cond a 0 1 + failing p ys
-    go true b not_a is_b h = absurd (true≢false not_a)
-    go false false not_a is_b h = absurd (false≢true is_b)
-    go false true not_a is_b h = omega arith
-failing_lesser p q (y ∷ ys) x weaker (inr at) was is = go (p y) (q y) (weaker y) (failing_lesser p q ys x weaker at was is)
-  where
-    go : (a b : Bool) → (a ≡ true → b ≡ true) → failing q ys < failing p ys → cond b 0 1 + failing q ys < cond a 0 1 + failing p ys
-    go true true weak h = omega arith
-    go true false weak h = absurd (false≢true (weak refl))
-    go false true weak h = omega arith
-    go false false weak h = omega arith
 
 module _ (w : Web) (F : ℕ → Bool) where
   -- all that moves so far moves as in the set
   pub record IsInside (root : ℕ) (v : Vertex) : Type 0 where
     pub its : (move : Move) → Among move v → FiresAs w F move.automaton move.fires
     pub root_is : is_listed v root ≡ true
-
-  unlisted : Vertex → ℕ
-  unlisted v = failing (is_listed v) (places w)
 
   module _ (is_web : IsWeb w) (connected : IsConnected w F) where
     moves_test : ℕ → Bool
@@ -122,14 +76,8 @@ module _ (w : Web) (F : ℕ → Bool) where
           (agrees_from w v x link (λ move name at its theirs. sym (fires.same name its) ∙ (inside.its move at).same name theirs))
           (fits_inside (with_link v x link) (inside_next v x link inside fires))
 
-      fewer : (v : Vertex) (x : ℕ) (link : List ℕ) → x < length w.automata → is_listed v x ≡ false → unlisted (with_link v x link) < unlisted v
-      unfolding unlisted with_link is_listed
-      fewer v x link below new =
-          failing_lesser (is_listed v) (is_listed (with_link v x link)) (places w) x (λ y h. or_right (nat_eq x y) (is_listed v y) h)
-          (among_range 0 (length w.automata) x (omega arith) (omega arith)) new (or_left (nat_eq x x) (is_listed v x) (eq-eqb x x refl))
-
       child_inside : (v : Vertex) (x : ℕ) → least_open w v ≡ Some x → IsInside root v
-          → (link : List ℕ) × Among (with_link v x link) (children_at w root v (least_open w v)) × IsInside root (with_link v x link) × (unlisted (with_link v x link) < unlisted v)
+          → (link : List ℕ) × Among (with_link v x link) (children_at w root v (least_open w v)) × IsInside root (with_link v x link) × (unlisted w (with_link v x link) < unlisted w v)
       unfolding children_at
       child_inside v x is inside =
           let opens = least_gives w v x is in
@@ -140,14 +88,14 @@ module _ (w : Web) (F : ℕ → Bool) where
             link.0,
             subst (λ o. Among (with_link v x link.0) (children_at w root v o)) (sym is) (subst (Among (with_link v x link.0)) (sym above) at),
             inside_next v x link.0 inside link.1,
-            fewer v x link.0 (name_within w x moves.name moves.its) (open_gives w v x opens).0,
+            fewer w v x link.0 (name_within w x moves.name moves.its) (open_gives w v x opens).0,
           )
 
       Whole : Vertex → ℕ → Type 0
       Whole v n = (u : Vertex) × Among u (grown w root n v) × IsInside root u × (is_complete w u ≡ true)
 
       -- a complete list inside the set grows from any list inside it
-      grows_inside : (n : ℕ) (v : Vertex) → IsInside root v → unlisted v ≤ n → Whole v n
+      grows_inside : (n : ℕ) (v : Vertex) → IsInside root v → unlisted w v ≤ n → Whole v n
       unfolding Whole grown is_complete
       grows_inside zero v inside bound = go (least_open w v) refl
         where
@@ -156,7 +104,7 @@ module _ (w : Web) (F : ℕ → Bool) where
           go (Some x) is = let c = child_inside v x is inside in absurd (omega (arith, c.3))
       grows_inside (suc n) v inside bound = go (least_open w v) refl (grows_inside n)
         where
-          go : (o : Option ℕ) → least_open w v ≡ o → ((u : Vertex) → IsInside root u → unlisted u ≤ n → Whole u n) → Whole v (suc n)
+          go : (o : Option ℕ) → least_open w v ≡ o → ((u : Vertex) → IsInside root u → unlisted w u ≤ n → Whole u n) → Whole v (suc n)
           go None is rest = (v, inl refl, inside, ap (λ o. not (is_some o)) is)
           go (Some x) is rest =
               let c = child_inside v x is inside in
@@ -190,12 +138,12 @@ module _ (w : Web) (F : ℕ → Bool) where
       first_is_vertex link fires = extended_from w [] root link fires.its refl (fits_inside (with_link [] root link) (first_inside link fires))
 
       found_from : Moves w F root → (v : Vertex) × Among v (vertices w) × StandsFor w F v
-      unfolding vertices vertices_of unlisted Whole
+      unfolding vertices vertices_of Whole
       found_from moving =
           let link = connected.each root moving in
           let first = with_link [] root link.0 in
           let whole = grows_inside (length w.automata) first (first_inside link.0 link.1)
-          (let b = failing_bound (is_listed first) (places w) in let l = length-range_with_len 0 (length w.automata) in omega arith) in (
+          (let b = unlisted_bound w first in omega arith) in (
             whole.0,
             among_flat_map (vertices_of w) (places w) root whole.0
                 (among_range 0 (length w.automata) root (omega arith) (let b = name_within w root moving.name moving.its in omega arith))

@@ -1,5 +1,7 @@
 pub mod ListLemmas
 pub mod VertexLemmas
+pub mod UnlistedLemmas
+pub mod RuleLemmas
 pub mod SoundLemmas
 pub mod InsideLemmas
 pub mod OnceLemmas

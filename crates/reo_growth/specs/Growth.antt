@@ -1,8 +1,8 @@
 -- Growth: partial firings, from one automaton on, each wider than the last by the least automaton that is open.
-use Rattle.std.specs.Prelude.{ℕ, zero, suc, nat_eq, nat_lt, List, [], ◌∷◌, length, map, filter, flat_map, Option, Some, None, is_some, Bool, true, false, not, ◌&&◌, ◌||◌, if◌then◌else◌}
+use Rattle.std.specs.Prelude.{◌≡◌, ◌≤◌, ℕ, zero, suc, nat_eq, nat_lt, List, [], ◌∷◌, length, map, filter, flat_map, Option, Some, None, is_some, Bool, true, false, not, ◌&&◌, ◌||◌, if◌then◌else◌}
 use Rattle.std.specs.List.{list_any, list_all, find, range_with_len}
 use Rattle.reo_growth.specs.declared.web.Web.{Web}
-use Rattle.reo_growth.specs.Lists.{has}
+use Rattle.reo_growth.specs.Lists.{has, Among}
 use Rattle.reo_growth.specs.Web.{names_of, links_of}
 
 -- an automaton with one of its links
@@ -84,6 +84,11 @@ vertices_of w root = flat_map (grown w root (length w.automata)) (extended w [] 
 -- all vertices
 unfoldable pub vertices : Web → List Vertex
 vertices w = flat_map (vertices_of w) (places w)
+
+-- the vertices of a root by their rules: it alone with a link, and each child of a vertex
+pub data IsVertex (w : Web) (root : ℕ) : Vertex → Type 0 where
+  alone : (link : List ℕ) → Among link (links_of w root) → fits w (with_link [] root link) ≡ true → IsVertex w root (with_link [] root link)
+  child : (v : Vertex) (x : ℕ) (link : List ℕ) → IsVertex w root v → least_open w v ≡ Some x → root ≤ x → Among link (links_of w x) → agrees w v x link ≡ true → fits w (with_link v x link) ≡ true → IsVertex w root (with_link v x link)
 
 -- how many there are
 unfoldable pub growth_count : Web → ℕ

@@ -1,9 +1,9 @@
 -- Laws of the definitions, each the contract of a function that does nothing.
-use Rattle.std.specs.Prelude.{◌≡◌, ℕ, List, Bool, true}
+use Rattle.std.specs.Prelude.{◌≡◌, ◌↔◌, ℕ, List, Bool, true}
 use Rattle.reo_growth.specs.declared.web.Web.{Web}
 use Rattle.reo_growth.specs.Lists.{has, Among, AtMostOne}
 use Rattle.reo_growth.specs.Web.{names_of, IsWeb, Moves, FiresAs, IsConnected}
-use Rattle.reo_growth.specs.Growth.{Vertex, fired, agrees, agrees_as_one, vertices, is_complete}
+use Rattle.reo_growth.specs.Growth.{Vertex, fired, agrees, agrees_as_one, vertices_of, vertices, is_complete, IsVertex}
 
 -- the vertex has no open automaton, and what fires in it is this set
 pub record StandsFor (w : Web) (F : ℕ → Bool) (v : Vertex) : Type 0 where
@@ -21,6 +21,10 @@ GrowsOnly = (w : Web) → IsWeb w → (v : Vertex) → Among v (vertices w) → 
 -- no two vertices stand for the same set
 abbrev pub GrowsOnce : Type 0
 GrowsOnce = (w : Web) → IsWeb w → (F : ℕ → Bool) → AtMostOne (StandsFor w F) (vertices w)
+
+-- the list of a root's vertices has those that the rules give, and no others
+abbrev pub VerticesByRule : Type 0
+VerticesByRule = (w : Web) (root : ℕ) (v : Vertex) → Among v (vertices_of w root) ↔ IsVertex w root v
 
 -- a link agrees with every automaton of a vertex exactly where it agrees with the vertex as a whole
 abbrev pub AgreesAsOne : Type 0
