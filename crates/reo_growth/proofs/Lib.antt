@@ -11,6 +11,7 @@ pub mod WentLemmas
 pub mod ReadLemmas
 pub mod EngineLemmas
 pub mod TableLemmas
+pub mod OpenLemmas
 pub mod SearchLemmas
 pub mod SortLemmas
 pub mod FiringLemmas

@@ -1,5 +1,5 @@
 -- Words that mirror the code of growth: what it marks of a partial firing.
-use Rattle.std.specs.Prelude.{◌≡◌, ℕ, ◌<◌, List, [], ◌++◌, length, map, slice_index_or, Bool, true, false, not, if◌then◌else◌, All}
+use Rattle.std.specs.Prelude.{◌≡◌, ℕ, ◌<◌, ◌≤◌, List, [], ◌++◌, length, map, slice_index_or, Bool, true, false, not, if◌then◌else◌, All}
 use Rattle.std.specs.List.{list_any, range_with_len}
 use Rattle.reo_growth.specs.declared.marks.Mark.{Mark}
 use Rattle.reo_growth.specs.declared.marks.Mark.TheVariants.{Absent, Open, Listed, Unknown, Silent, Fires}
@@ -35,6 +35,14 @@ opened other = other
 -- a list, changed at the places that pass the test
 abbrev pub Changes : (ℕ → Bool) → (Mark → Mark) → List Mark → List Mark → Type 0
 Changes test change old new = (length new ≡ length old) × ((k : ℕ) (d : Mark) → k < length old → slice_index_or new k d ≡ (if test k then change (slice_index_or old k d) else slice_index_or old k d))
+
+-- no automaton before this one is marked open
+abbrev pub NoneOpenBefore : ℕ → List Mark → Type 0
+NoneOpenBefore from marks = (k : ℕ) (d : Mark) → k < from → k < length marks → is_open_mark (slice_index_or marks k d) ≡ false
+
+-- it is not more than the start, nor than any number that passes the test
+abbrev pub IsBefore : (ℕ → Bool) → ℕ → ℕ → Type 0
+IsBefore test start least = (least ≤ start) × ((k : ℕ) → test k ≡ true → least ≤ k)
 
 -- all of these are below the bound
 abbrev pub AreBelow : ℕ → List ℕ → Type 0

@@ -3,7 +3,7 @@ ghost use Rattle.std.specs.Prelude.{◌≡◌, ℕ, ◌+◌, ◌*◌, ◌<◌, �
 ghost use Rattle.reo_growth.specs.Lists.{Among};
 ghost use Rattle.reo_growth.specs.Web.{links_of};
 ghost use Rattle.reo_growth.specs.Growth.{Vertex, extended, grown, least_open};
-ghost use Rattle.reo_growth.specs.Marks.{marks_of};
+ghost use Rattle.reo_growth.specs.Marks.{NoneOpenBefore, marks_of};
 ghost use Rattle.reo_growth.specs.Ground.{IsGround};
 ghost use Rattle.reo_growth.specs.Found.{Went};
 ghost use Rattle.reo_growth.specs.Sound.{IsReady, IsSound, widened};
@@ -14,11 +14,12 @@ use crate::marks::{Mark, agrees, first_open, fits};
 use std::alloc::AllocError;
 
 /// Goes over a vertex and all that grows from it with at most `left` further automata; false where there is not room
-/// for all of these. What `deeper` holds does not matter.
+/// for all of these. No automaton before `from` is open, and what `deeper` holds does not matter.
 #[cycle(growth)]
 fn grow(
     ground: &Ground,
     root: usize,
+    from: usize,
     left: usize,
     marks: &[Mark],
     deeper: &mut [Mark],
@@ -27,6 +28,8 @@ fn grow(
     requires ground { IsGround ground.now }
     requires long { length marks.now ≡ length ground.now.web.automata + ground.now.web.names }
     requires deep { left * length marks.now ≤ length deeper.old }
+    requires within { from ≤ length ground.now.web.automata }
+    requires before { NoneOpenBefore from marks.now }
     requires room { found.old.count + found.old.room < 2 ^ 32 }
     ensures room { IfOk result (λ _. found.new.count + found.new.room ≤ found.old.count + found.old.room) }
     ensures went { (v : Vertex) → IsSound ground.now.web root v → marks.now ≡ marks_of ground.now.web v → IfOk result (Went ground.now.web (grown ground.now.web root left v) found.old found.new) }
@@ -36,7 +39,7 @@ fn grow(
     }
     found.room -= 1;
     let (automata, names) = marks.split_at(ground.web.automata.len());
-    let Some(x) = first_open(automata) else {
+    let Some(x) = first_open(automata, from) else {
         found.keep(names)?;
         return Ok(true);
     };
@@ -61,6 +64,7 @@ pub fn widen(
     requires within { x < length ground.now.web.automata }
     requires long { length marks.now ≡ length ground.now.web.automata + ground.now.web.names }
     requires deep { (left + 1) * length marks.now ≤ length deeper.old }
+    requires before { NoneOpenBefore x marks.now }
     requires room { found.old.count + found.old.room < 2 ^ 32 }
     ensures room { IfOk result (λ _. found.new.count + found.new.room ≤ found.old.count + found.old.room) }
     ensures went { (v : Vertex) → IsReady ground.now.web root v x → marks.now ≡ marks_of ground.now.web v → IfOk result (Went ground.now.web (flat_map (grown ground.now.web root left) (extended ground.now.web v x)) found.old found.new) }
@@ -91,6 +95,7 @@ fn grow_child(
     requires its { Among link.now (links_of ground.now.web x) }
     requires long { length marks.now ≡ length ground.now.web.automata + ground.now.web.names }
     requires deep { (left + 1) * length marks.now ≤ length deeper.old }
+    requires before { NoneOpenBefore x marks.now }
     requires room { found.old.count + found.old.room < 2 ^ 32 }
     ensures room { IfOk result (λ _. found.new.count + found.new.room ≤ found.old.count + found.old.room) }
     ensures went { (v : Vertex) → IsReady ground.now.web root v x → marks.now ≡ marks_of ground.now.web v → IfOk result (Went ground.now.web (flat_map (grown ground.now.web root left) (widened ground.now.web v x (link.now ∷ []))) found.old found.new) }
@@ -101,9 +106,9 @@ fn grow_child(
         return Ok(true);
     }
     let (child, rest) = deeper.split_at_mut(marks.len());
-    enter(ground, x, link, marks, child);
+    let from = enter(ground, x, link, marks, child);
     if !fits(&child[count..], ground.web.cells.as_slice()) {
         return Ok(true);
     }
-    grow(ground, root, left, child, rest, found)
+    grow(ground, root, from, left, child, rest, found)
 }

@@ -1,8 +1,8 @@
 //! What growth marks of a partial firing, so that no list of automata is searched.
-ghost use Rattle.std.specs.Prelude.{◌≡◌, ℕ, length, All, position, slice_index_or, ◌<◌, not, ◌&&◌};
+ghost use Rattle.std.specs.Prelude.{◌≡◌, ℕ, length, All, position, slice_index_or, ◌<◌, ◌≤◌, not, ◌&&◌};
 ghost use Rattle.std.specs.List.{list_all, list_any};
 ghost use Rattle.reo_growth.specs.Lists.{has};
-ghost use Rattle.reo_growth.specs.Marks.{AreBelow, Changes, allows, is_fires, is_open_mark, met, opened};
+ghost use Rattle.reo_growth.specs.Marks.{AreBelow, Changes, IsBefore, NoneOpenBefore, allows, is_fires, is_open_mark, met, opened};
 
 use sqlite_items::Items;
 
@@ -28,11 +28,20 @@ pub fn fires(mark: Mark) -> bool
     matches!(mark, Mark::Fires)
 }
 
-/// The least automaton that is open.
-pub fn first_open(automata: &[Mark]) -> Option<usize>
+fn first_of(automata: &[Mark]) -> Option<usize>
     ensures { result ≡ position is_open_mark automata.now }
 {
     automata.iter().position(|mark| matches!(mark, Mark::Open))
+}
+
+/// The least automaton that is open, where none before this one is.
+pub fn first_open(automata: &[Mark], from: usize) -> Option<usize>
+    requires within { from ≤ length automata.now }
+    requires before { NoneOpenBefore from automata.now }
+    ensures { result ≡ position is_open_mark automata.now }
+{
+    let later = first_of(&automata[from..])?;
+    Some(from + later)
 }
 
 /// Whether a link says of each name what is known of it.
@@ -91,14 +100,17 @@ pub fn mark_fired(marks: &mut [Mark], link: &[u32])
     }
 }
 
-/// Marks the automata of a name that fires from now on.
-pub fn mark_open(automata: &mut [Mark], holders: &[u32])
+/// Marks the automata of a name that fires from now on, and tells the least of them and a number.
+pub fn mark_open(automata: &mut [Mark], holders: &[u32], mut least: usize) -> usize
     requires { AreBelow (length automata.old) holders.now }
-    ensures { Changes (has holders.now) opened automata.old automata.new }
+    ensures opened { Changes (has holders.now) opened automata.old automata.new }
+    ensures least { IsBefore (has holders.now) least result }
 {
     for holder in holders {
         automata[*holder as usize] = open_from_now(automata[*holder as usize]);
+        least = least.min(*holder as usize);
     }
+    least
 }
 
 /// Whether no FIFO1 has both ends among the names that fire.

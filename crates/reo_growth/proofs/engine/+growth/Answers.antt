@@ -6,7 +6,10 @@ use Rattle.reo_growth.specs.declared.web.Automaton.{Automaton}
 use Rattle.reo_growth.specs.Lists.{Among}
 use Rattle.reo_growth.specs.Web.{links_of}
 use Rattle.reo_growth.specs.Growth.{Vertex, agrees, fits, with_link, grown}
-use Rattle.reo_growth.specs.Marks.{AreBelow}
+use Rattle.reo_growth.specs.Marks.{AreBelow, NoneOpenBefore, is_open_mark}
+use Rattle.reo_growth.specs.declared.marks.Mark.TheVariants.{Absent}
+use Rattle.std.proofs.lemmas.List.Quantifiers.{position-Some}
+use Rattle.reo_growth.proofs.OpenLemmas.{first_before}
 use Rattle.reo_growth.specs.Found.{Went, WentOver}
 use Rattle.reo_growth.specs.Sound.{widened}
 use Rattle.reo_growth.proofs.ListLemmas.{among_at}
@@ -66,8 +69,8 @@ pub grow_child-returns-then-not-fits-clause-went : goal.grow_child-returns-then-
 grow_child-returns-then-not-fits-clause-went t c = λ v ready is.
     let w = c.args.ground.now.web in
     let wide = with_link v c.args.x c.args.link.now in
-    let entered = c.enter.ensures v is in
-    let tail = tail_is w wide c.enter.new.wider c.len-count.result _ c.len-count.ensures entered (omega (arith, length-drop c.len-count.result c.enter.new.wider)) in
+    let entered = c.enter-from.ensures.entered v is in
+    let tail = tail_is w wide c.enter-from.new.wider c.len-count.result _ c.len-count.ensures entered (omega (arith, length-drop c.len-count.result c.enter-from.new.wider)) in
     let fit : fits w wide ≡ false = fits_said w c.requires.ground.is_web wide _ c.as_slice-2.result.now c.fits.result tail c.as_slice-2.ensures c.fits.ensures ∙ c.if-not-fits.true in
     no_child w c.args.root c.args.left v c.args.x c.args.link.now c.args.found.now (and_right (agrees w v c.args.x c.args.link.now) (fits w wide) fit)
 
@@ -80,8 +83,8 @@ grow_child-returns-clause-went t c = λ v ready is.
     let names = names_at w x c.as_slice.result.now c.index-as_slice-x.result c.requires.within c.as_slice.ensures ∙ sym c.as_slice-names.ensures in
     let tail = tail_is w v c.args.marks.now c.len-count.result (length c.args.marks.now - c.len-count.result) c.len-count.ensures is (omega (arith, length-drop c.len-count.result c.args.marks.now)) in
     let agree : agrees w v x link ≡ true = agrees_said w c.requires.ground.is_web c.args.root v x link c.as_slice-names.result.now _ c.agrees.result ready tail names c.agrees.ensures ∙ c.if-not-agrees.false in
-    let entered = c.enter.ensures v is in
-    let tail_wide = tail_is w wide c.enter.new.wider c.len-count.result _ c.len-count.ensures entered (omega (arith, length-drop c.len-count.result c.enter.new.wider)) in
+    let entered = c.enter-from.ensures.entered v is in
+    let tail_wide = tail_is w wide c.enter-from.new.wider c.len-count.result _ c.len-count.ensures entered (omega (arith, length-drop c.len-count.result c.enter-from.new.wider)) in
     let fit : fits w wide ≡ true = fits_said w c.requires.ground.is_web wide _ c.as_slice-2.result.now c.fits.result tail_wide c.as_slice-2.ensures c.fits.ensures ∙ c.if-not-fits.false in
     one_child w c.args.root c.args.left v x link c.args.found.now c.grow.new.found c.grow.result agree fit (c.grow.ensures.went wide (child_sound w c.args.root v x link ready c.requires.its agree fit) entered)
 
@@ -118,4 +121,17 @@ widen-grow_child-requires t c =
     (subst (λ link. Among link c.as_slice-link-items.result.now) (sym (c.as_slice-in-loop-link.ensures ∙ c.link-item.is)) (among_at c.as_slice-link-items.result.now c.loop-link.link-index _ c.loop-link-test.true)) in
     let deep = subst (λ n. (c.args.left + 1) * length c.args.marks.now ≤ n) (sym c.loop-link.auto.deeper) c.requires.deep in
     let room : c.loop-link.found.count + c.loop-link.found.room < 2 ^ 32 = omega (arith, c.loop-link.invariant.room, c.requires.room) in
-    (omega (arith, c.decreases), (c.requires.ground, (c.requires.within, (its, (c.requires.long, (deep, room))))))
+    (omega (arith, c.decreases), (c.requires.ground, (c.requires.within, (its, (c.requires.long, (deep, (c.requires.before, room)))))))
+
+pub grow-widen-requires : goal.grow-widen-requires
+grow-widen-requires t c =
+    let w = c.args.ground.now.web in
+    let front = c.split_at.ensures.front ∙ ap (λ n. take n c.args.marks.now) c.len.ensures in
+    let p = position-Some is_open_mark c.split_at.result.0.now c.in-Some.x Absent (sym c.in-Some.ensures) in
+    let within : c.in-Some.x < length w.automata = omega (arith, p.0, c.split_at.ensures.front_len, c.len.ensures) in
+    let before : NoneOpenBefore c.in-Some.x c.args.marks.now = first_before c.args.marks.now c.split_at.result.0.now (length w.automata) c.in-Some.x front within p.2 in
+    let some = c.if-left-eq0.false in
+    let left : c.args.left ≡ c.args.left - 1 + 1 = omega arith in
+    let deep = subst (λ n. n * length c.args.marks.now ≤ length c.args.deeper.now) left c.requires.deep in
+    let room : c.args.found.now.count + (c.args.found.now.room - 1) < 2 ^ 32 = omega (arith, c.requires.room) in
+    (omega (arith, c.decreases), (c.requires.ground, (within, (c.requires.long, (deep, (before, room))))))

@@ -4,6 +4,7 @@ use Rattle.reo_growth.specs.Growth.{extended, grown}
 use Rattle.reo_growth.specs.Found.{Went, WentOver}
 use Rattle.reo_growth.proofs.MarkLemmas.{length-marks_of}
 use Rattle.reo_growth.proofs.EngineLemmas.{ready_none}
+use Rattle.reo_growth.proofs.OpenLemmas.{none_open}
 use Rattle.reo_growth.proofs.SearchLemmas.{vertices_before, search_none, search_more, search_over, search_all}
 use Rattle.reo_growth.proofs.table.grow_all.Goals as goal
 
@@ -42,3 +43,6 @@ returns c =
     let all : c.loop-root.root ≡ length w.automata = omega (arith, c.len-count.ensures, c.loop-root-test.false, c.loop-root.auto.root-end) in
     search_all w _ c.loop-root.found c.requires.fresh.room c.requires.fresh.count c.requires.fresh.rows
     (subst (λ n. WentOver w (vertices_before w n) c.args.found c.loop-root.found) all c.loop-root.invariant.went)
+
+pub widen-requires-clause-before : goal.widen-requires-clause-before
+widen-requires-clause-before c = none_open c.args.ground.now.web c.args.marks.now c.loop-root.root (omega (arith, c.len-count.ensures, c.loop-root-test.true)) c.requires.marks
