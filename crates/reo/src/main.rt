@@ -18,6 +18,8 @@ mod graphs;
 #[cfg(test)]
 mod guards;
 #[cfg(test)]
+mod kinds;
+#[cfg(test)]
 mod product_steps;
 #[cfg(test)]
 mod refused_lines;

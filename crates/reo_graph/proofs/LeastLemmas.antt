@@ -12,7 +12,7 @@ IsLeast-same P Q None to from none = λ n q. none n (from n q)
 IsLeast-same P Q (Some n) to from least = (to n least.0, λ m q. least.1 m (from m q))
 
 -- the least number, where one number is new
-IsLeast-more : (P Q : ℕ → Type 0) (o : Option ℕ) (x r : ℕ) → ((n : ℕ) → P n → Q n) → Q x → ((n : ℕ) → Q n → P n ⊎ (x ≡ n)) → IsLeast P o → IsLeast (λ n. (n ≡ x) ⊎ (o ≡ Some n)) (Some r) → IsLeast Q (Some r)
+pub IsLeast-more : (P Q : ℕ → Type 0) (o : Option ℕ) (x r : ℕ) → ((n : ℕ) → P n → Q n) → Q x → ((n : ℕ) → Q n → P n ⊎ (x ≡ n)) → IsLeast P o → IsLeast (λ n. (n ≡ x) ⊎ (o ≡ Some n)) (Some r) → IsLeast Q (Some r)
 IsLeast-more P Q None x r to new from none lesser = (
   ⊎_elim (λ e. subst Q (sym e) new) (λ e. cc) lesser.0,
   λ m q. ⊎_elim (λ p. absurd (none m p)) (λ e. lesser.1 m (inl (sym e))) (from m q),
