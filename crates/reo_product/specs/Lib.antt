@@ -1,0 +1,2 @@
+pub mod RegionWeb
+pub mod Laws
