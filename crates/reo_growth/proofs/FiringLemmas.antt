@@ -104,7 +104,7 @@ table_equal : (names : List ℕ) → table_cmp names names ≡ Equal
 table_equal names = ap (λ o. ordering_then o (slice_cmp nat_cmp names names)) (nat_equal (length names)) ∙ list_equal names
 
 -- lists in strict order are different ones
-once_strict : (names : List ℕ) (lists : List (List ℕ)) → IsStrictlySortedBy table_cmp lists → AtMostOne (λ other. other ≡ names) lists
+pub once_strict : (names : List ℕ) (lists : List (List ℕ)) → IsStrictlySortedBy table_cmp lists → AtMostOne (λ other. other ≡ names) lists
 unfolding IsStrictlySortedBy
 once_strict names [] strict = tt
 once_strict names (x ∷ xs) strict = (λ is y at also. less_absurd (all_at (λ y. table_cmp x y ≡ Less) xs strict.0 y at) (is ∙ sym also), once_strict names xs strict.1)

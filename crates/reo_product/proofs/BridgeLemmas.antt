@@ -40,7 +40,7 @@ number_of c n = go (nat_lt n (length c.channels)) refl
     go false is = let above = ltb-false n (length c.channels) is in omega arith
 
 module _ (c : RawCircuit) (root : Automaton) (names : List ℕ) (w : Web) (web : IsRegionWeb c root names w) where
-  at : ℕ → Automaton
+  pub at : ℕ → Automaton
   at i = automaton_of c (get_or web.region i 0)
 
   one_number : (i j : ℕ) → i < length web.region → j < length web.region → at i ≡ at j → i ≡ j
@@ -64,7 +64,7 @@ module _ (c : RawCircuit) (root : Automaton) (names : List ℕ) (w : Web) (web :
   links_are i below = ap (λ o. option_map_or (λ automaton. automaton.links) o []) (slice_get-get_or w.automata i nobody below)
 
   -- a name of the web is the region's, and the other way round
-  of_place : (i place : ℕ) → has (names_of w i) place ≡ true → (place < length names) × (HasName c (at i) (name_at names place)) × (SameRegion c root (at i))
+  pub of_place : (i place : ℕ) → has (names_of w i) place ≡ true → (place < length names) × (HasName c (at i) (name_at names place)) × (SameRegion c root (at i))
   unfolding at
   of_place i place h =
       let below = name_within w i place h in
@@ -72,7 +72,7 @@ module _ (c : RawCircuit) (root : Automaton) (names : List ℕ) (w : Web) (web :
       let its = ap (λ ns. has ns place) (sym (names_are i below)) ∙ h in
       (a.below place its, a.named place its, web.only i (omega (arith, web.as_many)))
 
-  of_name : (x : Automaton) (name : ℕ) → SameRegion c root x → HasName c x name
+  pub of_name : (x : Automaton) (name : ℕ) → SameRegion c root x → HasName c x name
       → (i : ℕ) × (i < length web.region) × (at i ≡ x) × ((place : ℕ) × (has (names_of w i) place ≡ true) × (name_at names place ≡ name))
   unfolding at
   of_name x name region its =

@@ -1,2 +1,3 @@
 pub mod RegionWeb
 pub mod Laws
+pub mod Table
