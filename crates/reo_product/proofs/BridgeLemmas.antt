@@ -43,7 +43,7 @@ module _ (c : RawCircuit) (root : Automaton) (names : List ℕ) (w : Web) (web :
   pub at : ℕ → Automaton
   at i = automaton_of c (get_or web.region i 0)
 
-  one_number : (i j : ℕ) → i < length web.region → j < length web.region → at i ≡ at j → i ≡ j
+  pub one_number : (i j : ℕ) → i < length web.region → j < length web.region → at i ≡ at j → i ≡ j
   unfolding at
   one_number i j in_i in_j same =
       one_place web.region web.in_order i j in_i in_j (sym (number_of c (get_or web.region i 0)) ∙ ap (automaton_number c) same ∙ number_of c (get_or web.region j 0))
@@ -80,6 +80,17 @@ module _ (c : RawCircuit) (root : Automaton) (names : List ℕ) (w : Web) (web :
       let below : i.0 < length w.automata = omega (arith, i.1, web.as_many) in
       let e = (automaton_at i.0 below).every name (subst (λ y. HasName c y name) (sym i.2) its) in
       (i.0, i.1, i.2, (e.0, ap (λ ns. has ns e.0) (names_are i.0 below) ∙ e.1, e.2))
+
+  -- where an automaton fires a transition, some link of it in the web is fired
+  pub link_of_fires : (i : ℕ) (places fires : ℕ → Bool) → i < length w.automata → ((place : ℕ) → has (names_of w i) place ≡ true → places place ≡ fires (name_at names place)) → AutomatonFires c (at i) fires
+      → (link : List ℕ) × FiresAs w places i link
+  unfolding at
+  link_of_fires i places fires below same moved =
+      let link = (automaton_at i below).links fires moved in
+      (link.0, record {
+        its = subst (Among link.0) (sym (links_are i below)) link.1;
+        same = λ place its. same place its ∙ link.2 place (ap (λ ns. has ns place) (sym (names_are i below)) ∙ its);
+      })
 
   module _ (places fires : ℕ → Bool) (match : Matches names places fires) where
     fires_at : (place : ℕ) → places place ≡ true → fires (name_at names place) ≡ true
@@ -174,11 +185,7 @@ module _ (c : RawCircuit) (root : Automaton) (names : List ℕ) (w : Web) (web :
         let o = of_place i m.name m.its in
         let fired = fires_at m.name m.fires in
         let moved : AutomatonFires c (at i) fires = ⊎_elim (λ quiet. absurd (true≢false (sym fired ∙ quiet (name_at names m.name) o.1))) (λ f. f) (firing.each (at i) o.2) in
-        let link = (automaton_at i below).links fires moved in
-        (link.0, record {
-          its = subst (Among link.0) (sym (links_are i below)) link.1;
-          same = λ place its. match.at place (of_place i place its).0 ∙ link.2 place (ap (λ ns. has ns place) (sym (names_are i below)) ∙ its);
-        })
+        link_of_fires i places fires below (λ place its. match.at place (of_place i place its).0) moved
 
     pub from_region : IsConnectedFiring c root fires → IsConnected w places
     from_region firing =

@@ -3,4 +3,4 @@
 
 mod laws;
 
-pub use laws::webs_are_regions;
+pub use laws::{steps_split_into_firings, webs_are_regions};
