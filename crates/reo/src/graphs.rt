@@ -1,6 +1,5 @@
 //! Closures of tables, and the least vertex on a loop, with values worked by hand.
 use reo_graph::{closed, laws, least_on_loop};
-use sqlite_items::Items;
 
 #[test]
 fn the_least_vertex_on_a_loop_is_found(rt: HostRuntime) {
@@ -43,13 +42,13 @@ fn a_table_is_closed(rt: HostRuntime) {
     let alloc = rt.alloc();
     laws::closure_decides_paths();
     laws::ranks_rise_along_edges();
-    let mut table = Items::new(alloc);
-    for row in [
+    let mut table = Vec::new(alloc);
+    for marks in [
         [false, true, false],
         [false, false, true],
         [false, false, false],
     ] {
-        let row = Items::from_slice(alloc, row.as_slice()).expect(&rt, "ample memory");
+        let row = marks.to_vec(alloc).expect(&rt, "ample memory");
         table.push(row).expect(&rt, "ample memory");
     }
     let closure = closed(alloc, table).expect(&rt, "ample memory");

@@ -1,0 +1,4 @@
+pub mod HasLemmas
+pub mod ChannelLaw
+pub mod NodeLaw
+pub mod TemplateLaw

@@ -1,0 +1,6 @@
+pub mod PlaceLemmas
+pub mod CodeLemmas
+pub mod FittingLemmas
+pub mod WordLemmas
+pub mod WriteLemmas
+pub mod EngineLemmas
