@@ -2,7 +2,7 @@
 use Rattle.std.proofs.Common.{◌≡◌, ◌≢◌, ℕ, zero, suc, ◌+◌, ◌<◌, ◌⊎◌, inl, inr, List, [], ◌∷◌, length, map, Bool, true, false, not, cond, ◌&&◌, Option, Some, None, is_some, refl, sym, ◌∙◌, subst, arith}
 use Rattle.std.specs.Prelude.{nat_lt, flat_map, filter}
 use Rattle.std.specs.List.{range_with_len}
-use Rattle.std.proofs.lemmas.Bool.{false≢true, true≢false, cases_Bool}
+use Rattle.std.proofs.lemmas.Bool.{false≢true, true≢false, cases_Bool, false_from_ne_true}
 use Rattle.reo_growth.specs.declared.web.Web.{Web}
 use Rattle.reo_growth.specs.Lists.{has, Among, AtMostOne}
 use Rattle.reo_growth.specs.Web.{names_of, links_of, Differ, AreApart, IsWeb}
@@ -12,10 +12,6 @@ use Rattle.reo_growth.proofs.ListLemmas.{among_map, map_gives, filter_gives, fla
 use Rattle.reo_growth.proofs.VertexLemmas.{fired_from, listed_gives, complete_lists, extended_gives}
 use Rattle.reo_growth.specs.Sound.{IsSound}
 use Rattle.reo_growth.proofs.SoundLemmas.{fires_as, sound_first, sound_child, sound_grown, sound_of_root}
-
--- an element of a set of names, where two of them differ, is not outside the one only
-differ_absurd : (a b c d : Bool) → a ≢ b → c ≡ a → d ≡ b → c ≡ d → ⊥
-differ_absurd a b c d apart one other both = apart (sym one ∙ both ∙ other)
 
 module _ (w : Web) (is_web : IsWeb w) (F : ℕ → Bool) where
   -- what grows from a list has the moves of the list
@@ -51,22 +47,17 @@ module _ (w : Web) (is_web : IsWeb w) (F : ℕ → Bool) where
         let at_b = keeps root n (with_link v x other) b below_b.1 below_b.0 move_b (inl refl) in
         let sound_a = sound_grown w is_web root n (with_link v x one) a below_a.1 below_a.0 in
         let sound_b = sound_grown w is_web root n (with_link v x other) b below_b.1 below_b.0 in
-        at_name at_a at_b sound_a sound_b (cases_Bool (has (names_of w x) differ.at))
+        differ (λ name. at_name at_a at_b sound_a sound_b name (cases_Bool (has (names_of w x) name)))
       where
+        not_its : (link : List ℕ) (name : ℕ) → has (names_of w x) name ≡ false → Among link (links_of w x) → has link name ≡ false
+        not_its link name foreign its = false_from_ne_true (has link name) (λ is. true≢false (sym (is_web.own x link its name is) ∙ foreign))
         at_name : (let move_a : Move = record { automaton = x; fires = one } in Among move_a a) → (let move_b : Move = record { automaton = x; fires = other } in Among move_b b)
-            → IsSound w root a → IsSound w root b → (has (names_of w x) differ.at ≡ true) ⊎ (has (names_of w x) differ.at ≡ false) → ⊥
-        at_name at_a at_b sound_a sound_b (inl its) =
-            differ.differ (sym (fires_as w is_web root a sound_a (record { automaton = x; fires = one }) differ.at at_a its)
-            ∙ for_a.fires differ.at ∙ sym (for_b.fires differ.at)
-            ∙ fires_as w is_web root b sound_b (record { automaton = x; fires = other }) differ.at at_b its)
-        at_name at_a at_b sound_a sound_b (inr foreign) =
-            differ.differ (not_its one its_one ∙ sym (not_its other its_other))
-          where
-            not_its : (link : List ℕ) → Among link (links_of w x) → has link differ.at ≡ false
-            not_its link its = elim (cases_Bool (has link differ.at)) [
-              | inl is ↦ absurd (true≢false (sym (is_web.own x link its differ.at is) ∙ foreign))
-              | inr is ↦ is
-            ]
+            → IsSound w root a → IsSound w root b → (name : ℕ) → (has (names_of w x) name ≡ true) ⊎ (has (names_of w x) name ≡ false) → has one name ≡ has other name
+        at_name at_a at_b sound_a sound_b name (inl its) =
+            sym (fires_as w is_web root a sound_a (record { automaton = x; fires = one }) name at_a its)
+            ∙ for_a.fires name ∙ sym (for_b.fires name)
+            ∙ fires_as w is_web root b sound_b (record { automaton = x; fires = other }) name at_b its
+        at_name at_a at_b sound_a sound_b name (inr foreign) = not_its one name foreign its_one ∙ sym (not_its other name foreign its_other)
 
     links_separate : (n : ℕ) (test : List ℕ → Bool) (links : List (List ℕ)) → AreApart links → ((link : List ℕ) → Among link links → Among link (links_of w x))
         → ((link : List ℕ) → Among link (filter test links) → IsSound w root (with_link v x link))

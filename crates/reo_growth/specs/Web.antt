@@ -1,6 +1,6 @@
 -- A web: the automata of a region, each known by its place, with the names that they share; and the sets of names that
 -- fire at once in it.
-use Rattle.std.specs.Prelude.{◌≡◌, ◌≢◌, ℕ, ◌<◌, ◌^◌, List, [], ◌∷◌, length, slice_get, Bool, true, All}
+use Rattle.std.specs.Prelude.{◌≡◌, ℕ, ◌<◌, ◌^◌, List, [], ◌∷◌, length, slice_get, Bool, true, All}
 use Rattle.std.specs.Option.{option_map_or}
 use Rattle.reo_growth.specs.declared.web.Web.{Web}
 use Rattle.reo_growth.specs.Lists.{has, Among}
@@ -13,10 +13,9 @@ names_of w x = option_map_or (λ automaton. automaton.names) (slice_get w.automa
 unfoldable pub links_of : Web → ℕ → List (List ℕ)
 links_of w x = option_map_or (λ automaton. automaton.links) (slice_get w.automata x) []
 
--- of the two sets of names, one has this name and the other has not
-pub record Differ (one other : List ℕ) : Type 0 where
-  pub at : ℕ
-  pub differ : has one at ≢ has other at
+-- the two are not the same set of names
+abbrev pub Differ : List ℕ → List ℕ → Type 0
+Differ one other = ((name : ℕ) → has one name ≡ has other name) → ⊥
 
 -- each link differs from all after it
 abbrev pub AreApart : List (List ℕ) → Type 0

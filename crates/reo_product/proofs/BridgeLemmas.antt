@@ -13,13 +13,14 @@ use Rattle.reo_net.specs.Names.{end_a, end_b}
 use Rattle.reo_net.specs.Kind.{is_fifo}
 use Rattle.reo_net.specs.Regions.{Automaton, OfChannel, OfNode, automaton_number, HasName, SameRegion, AutomatonFires, IsQuiet, HangsTogether, Moves, IsConnectedFiring}
 use Rattle.reo_net.specs.Regions.HangsTogether.{here as together_here, linked as together_linked}
+use Rattle.reo_automata.specs.Template.{automaton_of}
 use Rattle.reo_growth.specs.declared.web.Automaton.{Automaton as WebAutomaton}
 use Rattle.reo_growth.specs.declared.web.Web.{Web}
 use Rattle.reo_growth.specs.Lists.{has, Among}
 use Rattle.reo_growth.specs.Web.{names_of, links_of, Moves as WebMoves, FiresAs, Together, here, joined, IsConnected}
 use Rattle.reo_growth.proofs.ListLemmas.{any_from, any_gives, has_among, among_has}
 use Rattle.reo_growth.proofs.VertexLemmas.{name_within, link_within}
-use Rattle.reo_product.specs.RegionWeb.{automaton_of, name_at, LinkFires, IsWebAutomaton, IsRegionWeb}
+use Rattle.reo_product.specs.RegionWeb.{name_at, LinkFires, IsWebAutomaton, IsRegionWeb}
 use Rattle.reo_product.specs.Laws.{Matches, WebsAreRegions}
 
 -- a rising list has a number at one place

@@ -1,19 +1,16 @@
 -- The web of a region: its automata in rising order and its names in rising order, each known by its place.
-use Rattle.std.specs.Prelude.{◌≡◌, ◌↔◌, ℕ, ◌<◌, ◌-◌, nat_lt, if◌then◌else◌, List, [], length, slice_get, slice_index, Bool, true, Some}
+use Rattle.std.specs.Prelude.{◌≡◌, ◌↔◌, ℕ, ◌<◌, List, [], length, slice_get, slice_index, Bool, true, Some}
 use Rattle.std.specs.List.Sorted.{IsStrictlyIncreasing}
 use Rattle.reo_net.specs.declared.circuit.Channel.{Channel}
 use Rattle.reo_net.specs.declared.circuit.RawCircuit.{RawCircuit}
 use Rattle.reo_net.specs.Names.{end_a, end_b}
 use Rattle.reo_net.specs.Kind.{is_fifo}
-use Rattle.reo_net.specs.Regions.{Automaton, OfChannel, OfNode, HasName, SameRegion, AutomatonFires}
+use Rattle.reo_net.specs.Regions.{Automaton, HasName, SameRegion, AutomatonFires}
+use Rattle.reo_automata.specs.Template.{automaton_of}
 use Rattle.reo_growth.specs.declared.web.Automaton.{Automaton as WebAutomaton}
 use Rattle.reo_growth.specs.declared.web.Web.{Web}
 use Rattle.reo_growth.specs.Lists.{has, Among}
 use Rattle.reo_growth.specs.Web.{AreApart}
-
--- channels are numbered first, then nodes
-abbrev pub automaton_of : RawCircuit → ℕ → Automaton
-automaton_of c number = if nat_lt number (length c.channels) then OfChannel number else OfNode (number - length c.channels)
 
 -- the name at a place
 abbrev pub name_at : List ℕ → ℕ → ℕ
