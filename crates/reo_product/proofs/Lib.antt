@@ -1,3 +1,4 @@
 pub mod BridgeLemmas
 pub mod NamedLemmas
 pub mod SplitLemmas
+pub mod PlaceLemmas

@@ -1,3 +1,4 @@
 pub mod RegionWeb
 pub mod Laws
 pub mod Table
+pub mod Places

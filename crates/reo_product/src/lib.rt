@@ -2,5 +2,6 @@
 #![tactic(auto)]
 
 mod laws;
+mod places;
 
 pub use laws::{steps_split_into_firings, webs_are_regions};

@@ -1,0 +1,38 @@
+-- Lists of names and of their places, as they grow.
+use Rattle.std.proofs.Common.{◌≡◌, ℕ, ◌+◌, ◌<◌, ◌≤◌, List, [], ◌∷◌, ◌++◌, length, map, take, get_or, All, ◌⊎◌, inl, inr, Result, MatchResult, Ok, Err, refl, sym, ◌∙◌, ap, subst, arith}
+use Rattle.std.specs.Ordering.{nat_cmp}
+use Rattle.std.specs.List.Sorted.{IsStrictlyIncreasing, IsBinarySearchResult}
+use Rattle.std.proofs.lemmas.Bool.{cases_order, cases_lt}
+use Rattle.std.proofs.lemmas.List.{map-append, take_more}
+use Rattle.std.proofs.lemmas.List.Elements.{All-push}
+use Rattle.std.proofs.lemmas.List.Sorted.{searched}
+use Rattle.std.proofs.lemmas.List.Kept.{AllPairs-from_increasing}
+use Rattle.reo_product.specs.RegionWeb.{name_at}
+use Rattle.reo_product.specs.Places.{ArePlacesOf, AreEachPlacesOf}
+
+pub place_more : (names list places : List ℕ) (i place : ℕ) → i < length list → place < length names → name_at names place ≡ get_or list i 0
+    → ArePlacesOf names (take i list) places → ArePlacesOf names (take (i + 1) list) (places ++ place ∷ [])
+place_more names list places i place within below is before = record {
+  named = map-append (name_at names) places (place ∷ []) ∙ ap (λ xs. xs ++ name_at names place ∷ []) before.named ∙ ap (λ n. take i list ++ n ∷ []) is ∙ sym (take_more list i 0 within);
+  within = All-push (λ place. place < length names) places place before.within below;
+}
+
+pub each_push : (names : List ℕ) (lists placed : List (List ℕ)) (list places : List ℕ) → AreEachPlacesOf names lists placed → ArePlacesOf names list places → AreEachPlacesOf names (lists ++ list ∷ []) (placed ++ places ∷ [])
+each_push names [] [] list places all one = (one, tt)
+each_push names [] (p ∷ ps) list places all one = absurd all
+each_push names (l ∷ ls) [] list places all one = absurd all
+each_push names (l ∷ ls) (p ∷ ps) list places all one = (all.0, each_push names ls ps list places all.1 one)
+
+not_down : (xs : List ℕ) → IsStrictlyIncreasing xs → (i j : ℕ) → i ≤ j → j < length xs → get_or xs i 0 ≤ get_or xs j 0
+not_down xs rising i j before within = elim (cases_order i j) [
+    inl same ↦ (let e = ap (λ k. get_or xs k 0) same in omega arith)
+  | inr other ↦ elim other [
+      inl less ↦ (let h = AllPairs-from_increasing xs rising i j 0 less within in omega arith)
+    | inr more ↦ absurd (omega arith) ] ]
+
+pub not_found : (xs : List ℕ) (x i : ℕ) → IsStrictlyIncreasing xs → IsBinarySearchResult (λ y. nat_cmp y x) xs (Err i) → (place : ℕ) → place < length xs → name_at xs place ≡ x → ⊥
+not_found xs x i rising result place within is =
+    let s = searched xs x (Err i) result (not_down xs rising) in
+    elim (cases_lt place i) [
+        inl less ↦ (let h = s.1 place less in absurd (omega arith))
+      | inr more ↦ (let h = s.2 place more within in absurd (omega arith)) ]
