@@ -2,3 +2,4 @@ pub mod BridgeLemmas
 pub mod NamedLemmas
 pub mod SplitLemmas
 pub mod PlaceLemmas
+pub mod PlacedLemmas

@@ -3,5 +3,6 @@
 
 mod laws;
 mod places;
+mod web;
 
 pub use laws::{steps_split_into_firings, webs_are_regions};

@@ -2,7 +2,7 @@ use Rattle.std.proofs.Common.{ℕ, List, ◌+◌, ◌++◌, ◌∷◌, [], take,
 use Rattle.std.proofs.lemmas.List.{take_all, map_more}
 use Rattle.reo_automata.specs.declared.template.Link.{Link}
 use Rattle.reo_product.specs.Places.{ArePlacesOf, AreEachPlacesOf, AreKnown}
-use Rattle.reo_product.proofs.PlaceLemmas.{each_push}
+use Rattle.reo_product.proofs.PlaceLemmas.{paired_push}
 use Rattle.reo_product.proofs.places.places_of_links.Goals as goal
 
 pub places_of-requires-clause-known : goal.places_of-requires-clause-known
@@ -21,7 +21,7 @@ loop-link-preserved c =
     let list = (get_or links i c.link-item.result).fires in
     subst (AreEachPlacesOf names (fires (take (i + 1) links))) (sym c.in_ok-push.ensures.ok)
     (subst (λ lists. AreEachPlacesOf names lists (c.loop-link.placed ++ places ∷ [])) (sym more)
-      (each_push names (fires (take i links)) c.loop-link.placed list places c.loop-link.invariant
+      (paired_push (ArePlacesOf names) (fires (take i links)) c.loop-link.placed list places c.loop-link.invariant
         (subst (λ list. ArePlacesOf names list places) here c.in_ok-places_of.ensures)))
 
 pub returns : goal.returns
