@@ -3,3 +3,4 @@ pub mod NamedLemmas
 pub mod SplitLemmas
 pub mod PlaceLemmas
 pub mod PlacedLemmas
+pub mod WebLemmas

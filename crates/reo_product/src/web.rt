@@ -1,8 +1,9 @@
 //! The web of a region.
 ghost use Rattle.std.specs.Prelude.{◌≡◌, ℕ, ◌+◌, ◌<◌, ◌^◌, length, All, IfOk};
 ghost use Rattle.std.specs.List.Sorted.{IsStrictlyIncreasing};
+ghost use Rattle.reo_net.specs.Checks.{IsChecked};
 ghost use Rattle.reo_net.specs.Regions.{Automaton as AnyAutomaton};
-ghost use Rattle.reo_growth.specs.Web.{AreFew};
+ghost use Rattle.reo_growth.specs.Web.{AreFew, IsWeb};
 ghost use Rattle.reo_product.specs.RegionWeb.{IsRegionWeb};
 ghost use Rattle.reo_product.specs.Places.{AreCells, AreNamesOf, ArePaired, AreRegionAutomata, AreTemplates, FindsCell, IsKnownTemplate, IsPlacedTemplate};
 
@@ -100,8 +101,11 @@ fn cell_of(names: &[u32], is_fifo: bool, a: u32) -> Option<(u32, u32)>
 
 /// The region with these automata as a web.
 pub fn web_of(alloc: Global, net: &Net, automata: &[u32]) -> Result<RegionWeb, AllocError>
-    requires { All (λ x. x < length net.now.channels + net.now.nodes) automata.now }
+    requires checked { IsChecked net.now }
+    requires below { All (λ x. x < length net.now.channels + net.now.nodes) automata.now }
     ensures web { IfOk result (λ it. (root : AnyAutomaton) → AreRegionAutomata net.now root automata.now → IsRegionWeb net.now root it.names it.web) }
+    ensures is_web { IfOk result (λ it. IsWeb it.web) }
+    ensures named { IfOk result (λ it. it.web.names ≡ length it.names) }
     ensures few { IfOk result (λ it. IsStrictlyIncreasing automata.now → AreFew it.web) }
 {
     let templates = templates_of(alloc, net, automata)?;
