@@ -16,10 +16,13 @@ use Rattle.reo_growth.specs.declared.web.Web.{Web}
 use Rattle.reo_growth.specs.Lists.{has, Among, AtMostOne}
 use Rattle.reo_growth.specs.Web.{IsConnected}
 use Rattle.reo_growth.specs.Growth.{growth_count}
-use Rattle.reo_growth.specs.Table.{table_cmp, AreFirings as AreWebFirings, HasFirings as HasWebFirings, IsTableOf as IsWebTable}
+use Rattle.reo_growth.specs.declared.table.TableRefusal.{TableRefusal}
+use Rattle.reo_growth.specs.declared.table.TableRefusal.TheVariants.{TooLarge as WebTooLarge, NoMemory as WebNoMemory}
+use Rattle.reo_growth.specs.Table.{table_cmp, AreFirings as AreWebFirings, HasFirings as HasWebFirings, IsTableOf as IsWebTable, Refuses as WebRefuses}
 use Rattle.reo_growth.proofs.ListLemmas.{same_tests, has_among, among_has, among_map, map_gives, among_at}
 use Rattle.reo_product.specs.RegionWeb.{name_at, IsRegionWeb}
-use Rattle.reo_product.specs.Table.{IsFiring, AreFirings, HasFirings, HasGrowth, IsTableOf}
+use Rattle.reo_product.specs.Table.{IsFiring, AreFirings, HasFirings, HasGrowth, IsTableOf, Refuses}
+use Rattle.reo_product.specs.Refusal.{refusal_of}
 use Rattle.reo_product.specs.Laws.{Matches}
 use Rattle.reo_product.proofs.BridgeLemmas.{one_place, of_place, of_name, to_region, from_region}
 
@@ -171,3 +174,11 @@ module _ (c : RawCircuit) (root : Automaton) (names : List ℕ) (w : Web) (web :
     are_all = firings_named has_them.firings has_them.are_all;
     are_so_many = length-map has_them.firings (map (name_at names)) ∙ has_them.are_so_many;
   }
+
+-- the refusal of a region by that of its web
+pub refused_named : (c : RawCircuit) (root : Automaton) (names : List ℕ) (w : Web) → IsRegionWeb c root names w → (region : ℕ) (why : TableRefusal) → WebRefuses w why → Refuses c root region (refusal_of region why)
+refused_named c root names w web region (WebTooLarge count) (inl over) =
+    (refl, inl (growth_count w, record { names = names; web = w; is_web = web; counted = refl }, over.0, over.1))
+refused_named c root names w web region (WebTooLarge count) (inr many) =
+    (refl, inr (growth_count w, record { names = names; web = w; is_web = web; counted = refl }, many.0, many.1, count_named c root names w web count many.2))
+refused_named c root names w web region WebNoMemory refused = tt

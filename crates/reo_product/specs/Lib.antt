@@ -2,3 +2,4 @@ pub mod RegionWeb
 pub mod Laws
 pub mod Table
 pub mod Places
+pub mod Refusal

@@ -7,6 +7,9 @@ use Rattle.reo_growth.specs.declared.web.Web.{Web}
 use Rattle.reo_growth.specs.Lists.{has, Among, AtMostOne}
 use Rattle.reo_growth.specs.Growth.{growth_count}
 use Rattle.reo_growth.specs.Table.{table_cmp}
+use Rattle.reo_product.specs.declared.table.Firing.{Firing}
+use Rattle.reo_product.specs.declared.table.ProductRefusal.{ProductRefusal}
+use Rattle.reo_product.specs.declared.table.ProductRefusal.TheVariants.{TooLarge, NoMemory}
 use Rattle.reo_product.specs.RegionWeb.{IsRegionWeb}
 
 -- these names, which rise, are a connected firing of the region
@@ -47,3 +50,12 @@ abbrev pub IsTooLarge : RawCircuit → Automaton → ℕ → Type 0
 IsTooLarge c root count =
     ((growth : ℕ) × HasGrowth c root growth × (65536 < growth) × (count ≡ 65537))
     ⊎ ((growth : ℕ) × HasGrowth c root growth × (growth ≤ 65536) × (4096 < count) × HasFirings c root count)
+
+-- what a firing fires
+abbrev pub names_in : Firing → List ℕ
+names_in firing = firing.names
+
+-- why there is no table
+abbrev pub Refuses : RawCircuit → Automaton → ℕ → ProductRefusal → Type 0
+Refuses c root region (TooLarge number count) = (number ≡ region) × IsTooLarge c root count
+Refuses c root region NoMemory = Unit {0}
