@@ -1,0 +1,200 @@
+-- The marks of a list that an automaton enters.
+use Rattle.std.proofs.Common.{◌≡◌, ℕ, ◌+◌, ◌<◌, ◌⊎◌, inl, inr, List, [], ◌∷◌, ◌++◌, length, take, drop, get_or, Bool, true, false, cond, ◌||◌, refl, sym, ◌∙◌, ap, arith, get_or-set_other, get_or-set_same, zero-add, length-append}
+use Rattle.std.specs.Prelude.{nat_eq}
+use Rattle.std.specs.List.{list_any}
+use Rattle.std.proofs.Math.ListN.{set, length-set}
+use Rattle.std.proofs.lemmas.Bool.{false≢true, eqb-true, eq-eqb, cases_Bool}
+use Rattle.std.specs.Option.{option_map_or}
+use Rattle.std.proofs.lemmas.Option.{slice_get-get_or}
+use Rattle.std.proofs.lemmas.List.{same_lists, take_more}
+use Rattle.std.proofs.Math.Seq.{take-append_seam, drop-append_seam}
+use Rattle.std.proofs.lemmas.List.Folds.{list_any-append}
+use Rattle.reo_growth.specs.declared.web.Automaton.{Automaton}
+use Rattle.std.proofs.lemmas.List.FromFn.{get_or-map-range_with_len, length-map-range_with_len}
+use Rattle.reo_growth.specs.declared.marks.Mark.{Mark}
+use Rattle.reo_growth.specs.declared.marks.Mark.TheVariants.{Absent, Open, Listed, Unknown, Silent, Fires}
+use Rattle.reo_growth.specs.declared.web.Web.{Web}
+use Rattle.reo_growth.specs.Lists.{has, Among}
+use Rattle.reo_growth.specs.Web.{names_of, links_of, IsWeb}
+use Rattle.reo_growth.specs.Growth.{Vertex, fired, known, is_listed, with_link}
+use Rattle.reo_growth.specs.Marks.{Changes, AreBelow, met, opened, automaton_mark, name_mark, automaton_marks, name_marks, marks_of, holders_at, is_held, AreHolders}
+use Rattle.reo_growth.proofs.ListLemmas.{same_tests, any_from, any_gives, has_among, among_has, among_at}
+
+any_or : {A : Type 0} (p q : A → Bool) (xs : List A) → list_any (λ x. p x || q x) xs ≡ (list_any p xs || list_any q xs)
+any_or p q [] = refl
+any_or p q (x ∷ xs) = ap (λ rest. (p x || q x) || rest) (any_or p q xs) ∙ four (p x) (q x) (list_any p xs) (list_any q xs)
+  where
+    four : (a b c d : Bool) → ((a || b) || (c || d)) ≡ ((a || c) || (b || d))
+    four true b c d = refl
+    four false true true d = refl
+    four false true false d = refl
+    four false false c d = refl
+
+-- how the mark of a name changes, by what the link fires, whether it fires, whether the automaton has it, whether it is known
+name_step : (link f its k : Bool) → cond (link || f) Fires (cond (its || k) Silent Unknown) ≡ cond link Fires (cond its (met (cond f Fires (cond k Silent Unknown))) (cond f Fires (cond k Silent Unknown)))
+name_step true f its k = refl
+name_step false true true k = refl
+name_step false true false k = refl
+name_step false false true true = refl
+name_step false false true false = refl
+name_step false false false k = refl
+
+-- how the mark of another automaton changes
+automaton_step : (l o h : Bool) → cond l Listed (cond (h || o) Open Absent) ≡ cond h (opened (cond l Listed (cond o Open Absent))) (cond l Listed (cond o Open Absent))
+automaton_step true o true = refl
+automaton_step true o false = refl
+automaton_step false true true = refl
+automaton_step false true false = refl
+automaton_step false false true = refl
+automaton_step false false false = refl
+
+module _ (w : Web) (v : Vertex) (x : ℕ) (link : List ℕ) where
+  wide : Vertex
+  wide = with_link v x link
+
+  name_mark_next : (k : ℕ) → name_mark w (with_link v x link) k ≡ cond (has link k) Fires (cond (has (names_of w x) k) (met (name_mark w v k)) (name_mark w v k))
+  unfolding name_mark fired known with_link
+  name_mark_next k = name_step (has link k) (fired v k) (has (names_of w x) k) (known w v k)
+
+  pub names_entered : (old middle new : List Mark) → old ≡ name_marks w v → Changes (has (names_of w x)) met old middle → Changes (has link) (λ _. Fires) middle new → new ≡ name_marks w (with_link v x link)
+  names_entered old middle new is first second =
+      same_lists new (name_marks w (with_link v x link)) (size ∙ sym (length-map-range_with_len (name_mark w (with_link v x link)) 0 w.names)) (λ k d below.
+      let within : k < w.names = omega (arith, size) in
+      second.1 k d (omega (arith, first.0, size_old))
+      ∙ ap (λ m. cond (has link k) Fires m) (first.1 k d (omega (arith, size_old)) ∙ ap (λ m. cond (has (names_of w x) k) (met m) m) (old_at k d within))
+      ∙ sym (name_mark_next k) ∙ sym (get_or-map-range_with_len (name_mark w (with_link v x link)) 0 w.names k k d within (zero-add k)))
+    where
+      size_old : length old ≡ w.names
+      size_old = ap length is ∙ length-map-range_with_len (name_mark w v) 0 w.names
+
+      size : length new ≡ w.names
+      size = second.0 ∙ first.0 ∙ size_old
+
+      old_at : (k : ℕ) (d : Mark) → k < w.names → get_or old k d ≡ name_mark w v k
+      old_at k d within = ap (λ xs. get_or xs k d) is ∙ get_or-map-range_with_len (name_mark w v) 0 w.names k k d within (zero-add k)
+
+  module _ (is_web : IsWeb w) (holders : List (List ℕ)) (right : AreHolders w holders) (its : Among link (links_of w x)) where
+    held : (y : ℕ) → is_held holders link y ≡ list_any (has link) (names_of w y)
+    held y = same_tests (is_held holders link y) (list_any (has link) (names_of w y))
+        (λ h. let f = any_gives (λ name. has (holders_at holders name) y) link h in
+        let in_link = among_has link f.0 f.1 in
+        let below = is_web.below x f.0 (is_web.own x link its f.0 in_link) in
+        any_from (has link) (names_of w y) f.0 (has_among (names_of w y) f.0 (sym (right.have y f.0 below) ∙ f.2)) in_link)
+        (λ h. let f = any_gives (has link) (names_of w y) h in
+        let of_y = among_has (names_of w y) f.0 f.1 in
+        any_from (λ name. has (holders_at holders name) y) link f.0 (has_among link f.0 f.2) (right.have y f.0 (is_web.below y f.0 of_y) ∙ of_y))
+
+    automaton_mark_next : (y : ℕ) → nat_eq x y ≡ false → automaton_mark w (with_link v x link) y ≡ cond (is_held holders link y) (opened (automaton_mark w v y)) (automaton_mark w v y)
+    unfolding automaton_mark fired is_listed with_link
+    automaton_mark_next y other =
+        ap (λ b. cond (b || is_listed v y) Listed (cond (list_any (λ name. has link name || fired v name) (names_of w y)) Open Absent)) other
+        ∙ ap (λ b. cond (is_listed v y) Listed (cond b Open Absent)) (any_or (has link) (fired v) (names_of w y) ∙ ap (λ b. b || list_any (fired v) (names_of w y)) (sym (held y)))
+        ∙ automaton_step (is_listed v y) (list_any (fired v) (names_of w y)) (is_held holders link y)
+
+    automaton_mark_here : (y : ℕ) → nat_eq x y ≡ true → automaton_mark w (with_link v x link) y ≡ Listed
+    unfolding automaton_mark is_listed with_link
+    automaton_mark_here y here = ap (λ b. cond (b || is_listed v y) Listed (cond (list_any (fired (with_link v x link)) (names_of w y)) Open Absent)) here
+
+    pub automata_entered : (old middle : List Mark) → old ≡ automaton_marks w v → x < length w.automata → Changes (is_held holders link) opened old middle → set middle x Listed ≡ automaton_marks w (with_link v x link)
+    automata_entered old middle is below changes =
+        same_lists (set middle x Listed) (automaton_marks w (with_link v x link)) (length-set middle x Listed ∙ size ∙ sym (length-map-range_with_len (automaton_mark w (with_link v x link)) 0 (length w.automata))) (λ k d at.
+        let within : k < length w.automata = omega (arith, size, length-set middle x Listed) in
+        at_place k d within (cases_Bool (nat_eq x k)) ∙ sym (get_or-map-range_with_len (automaton_mark w (with_link v x link)) 0 (length w.automata) k k d within (zero-add k)))
+      where
+        size_old : length old ≡ length w.automata
+        size_old = ap length is ∙ length-map-range_with_len (automaton_mark w v) 0 (length w.automata)
+
+        size : length middle ≡ length w.automata
+        size = changes.0 ∙ size_old
+
+        at_place : (k : ℕ) (d : Mark) → k < length w.automata → (nat_eq x k ≡ true) ⊎ (nat_eq x k ≡ false) → get_or (set middle x Listed) k d ≡ automaton_mark w (with_link v x link) k
+        at_place k d within (inl here) =
+            let e : x ≡ k = eqb-true x k here in
+            ap (λ y. get_or (set middle x Listed) y d) (sym e) ∙ get_or-set_same middle x Listed d (omega (arith, size)) ∙ sym (automaton_mark_here k here)
+        at_place k d within (inr other) =
+            let ne : k ≡ x → ⊥ = λ e. false≢true (sym other ∙ eq-eqb x k (sym e)) in
+            get_or-set_other middle x k Listed d ne ∙ changes.1 k d (omega (arith, size_old))
+            ∙ ap (λ m. cond (is_held holders link k) (opened m) m) (ap (λ xs. get_or xs k d) is ∙ get_or-map-range_with_len (automaton_mark w v) 0 (length w.automata) k k d within (zero-add k))
+            ∙ sym (automaton_mark_next k other)
+
+-- one change after another
+pub changes_twice : (change : Mark → Mark) → ((m : Mark) → change (change m) ≡ change m) → (p q r : ℕ → Bool) → ((k : ℕ) → r k ≡ (p k || q k)) → (old middle new : List Mark)
+    → Changes p change old middle → Changes q change middle new → Changes r change old new
+changes_twice change again p q r either old middle new first second = (
+  second.0 ∙ first.0,
+  λ k d below.
+      second.1 k d (omega (arith, first.0)) ∙ ap (λ m. cond (q k) (change m) m) (first.1 k d below)
+      ∙ twice (p k) (q k) (get_or old k d) ∙ ap (λ b. cond b (change (get_or old k d)) (get_or old k d)) (sym (either k)),
+)
+  where
+    twice : (a b : Bool) (m : Mark) → cond b (change (cond a (change m) m)) (cond a (change m) m) ≡ cond (a || b) (change m) m
+    twice true true m = again m
+    twice true false m = refl
+    twice false b m = refl
+
+pub opened_again : (m : Mark) → opened (opened m) ≡ opened m
+opened_again Absent = refl
+opened_again Open = refl
+opened_again Listed = refl
+opened_again Unknown = refl
+opened_again Silent = refl
+opened_again Fires = refl
+
+or_last : (a b : Bool) → (a || (b || false)) ≡ (a || b)
+or_last true b = refl
+or_last false true = refl
+or_last false false = refl
+
+pub is_held_more : (holders : List (List ℕ)) (link : List ℕ) (i k name : ℕ) (holder : List ℕ) → i < length link → name ≡ get_or link i 0 → holder ≡ holders_at holders name
+    → is_held holders (take (i + 1) link) k ≡ (is_held holders (take i link) k || has holder k)
+is_held_more holders link i k name holder within is held =
+    ap (λ xs. is_held holders xs k) (take_more link i 0 within) ∙ list_any-append (λ name. has (holders_at holders name) k) (take i link) (get_or link i 0 ∷ [])
+    ∙ or_last (is_held holders (take i link) k) (has (holders_at holders (get_or link i 0)) k)
+    ∙ ap (λ xs. is_held holders (take i link) k || has xs k) (ap (holders_at holders) (sym is) ∙ sym held)
+
+-- what stands at a place of the web
+pub names_at : (w : Web) (x : ℕ) (all : List Automaton) (d : Automaton) → x < length w.automata → all ≡ w.automata → names_of w x ≡ (get_or all x d).names
+unfolding names_of
+names_at w x all d below is = ap (λ o. option_map_or (λ automaton. automaton.names) o []) (slice_get-get_or w.automata x d below) ∙ ap (λ (xs : List Automaton). (get_or xs x d).names) (sym is)
+
+pub links_at : (w : Web) (x : ℕ) (all : List Automaton) (d : Automaton) → x < length w.automata → all ≡ w.automata → links_of w x ≡ (get_or all x d).links
+unfolding links_of
+links_at w x all d below is = ap (λ o. option_map_or (λ automaton. automaton.links) o []) (slice_get-get_or w.automata x d below) ∙ ap (λ (xs : List Automaton). (get_or xs x d).links) (sym is)
+
+pub below_from : (bound : ℕ) (xs : List ℕ) → ((x : ℕ) → has xs x ≡ true → x < bound) → AreBelow bound xs
+below_from bound xs h k d within = h (get_or xs k d) (among_has xs (get_or xs k d) (among_at xs k d within))
+
+pub own_below : (w : Web) → IsWeb w → (x : ℕ) → AreBelow w.names (names_of w x)
+own_below w is_web x = below_from w.names (names_of w x) (λ name h. is_web.below x name h)
+
+pub link_below : (w : Web) → IsWeb w → (x : ℕ) (link : List ℕ) → Among link (links_of w x) → AreBelow w.names link
+link_below w is_web x link its = below_from w.names link (λ name h. is_web.below x name (is_web.own x link its name h))
+
+pub length-automaton_marks : (w : Web) (v : Vertex) → length (automaton_marks w v) ≡ length w.automata
+length-automaton_marks w v = length-map-range_with_len (automaton_mark w v) 0 (length w.automata)
+
+pub length-name_marks : (w : Web) (v : Vertex) → length (name_marks w v) ≡ w.names
+length-name_marks w v = length-map-range_with_len (name_mark w v) 0 w.names
+
+pub front_of : (w : Web) (v : Vertex) (marks : List Mark) → marks ≡ marks_of w v → take (length w.automata) marks ≡ automaton_marks w v
+unfolding marks_of
+front_of w v marks is = ap (take (length w.automata)) is ∙ ap (λ n. take n (automaton_marks w v ++ name_marks w v)) (sym (length-automaton_marks w v)) ∙ take-append_seam (automaton_marks w v) (name_marks w v)
+
+pub back_of : (w : Web) (v : Vertex) (marks : List Mark) → marks ≡ marks_of w v → drop (length w.automata) marks ≡ name_marks w v
+unfolding marks_of
+back_of w v marks is = ap (drop (length w.automata)) is ∙ ap (λ n. drop n (automaton_marks w v ++ name_marks w v)) (sym (length-automaton_marks w v)) ∙ drop-append_seam (automaton_marks w v) (name_marks w v)
+
+-- the marks, when all that an automaton changes by entering is changed
+pub entered : (w : Web) → IsWeb w → (holders : List (List ℕ)) → AreHolders w holders → (v : Vertex) (x : ℕ) (link : List ℕ) → Among link (links_of w x) → x < length w.automata
+    → (marks front back known fires opens : List Mark) → marks ≡ marks_of w v → front ≡ take (length w.automata) marks → back ≡ drop (length w.automata) marks
+    → Changes (has (names_of w x)) met back known → Changes (has link) (λ _. Fires) known fires → Changes (is_held holders link) opened front opens
+    → set opens x Listed ++ fires ≡ marks_of w (with_link v x link)
+unfolding marks_of
+entered w is_web holders right v x link its below marks front back known fires opens is at_front at_back knows fire open_all =
+    let first = automata_entered w v x link is_web holders right its front opens (at_front ∙ front_of w v marks is) below open_all in
+    let second = names_entered w v x link back known fires (at_back ∙ back_of w v marks is) knows fire in
+    ap (λ xs. xs ++ fires) first ∙ ap (λ ys. automaton_marks w (with_link v x link) ++ ys) second
+
+pub length-marks_of : (w : Web) (v : Vertex) → length (marks_of w v) ≡ length w.automata + w.names
+unfolding marks_of
+length-marks_of w v = length-append (automaton_marks w v) (name_marks w v) ∙ ap (λ n. n + length (name_marks w v)) (length-automaton_marks w v) ∙ ap (λ n. length w.automata + n) (length-name_marks w v)

@@ -1,0 +1,7 @@
+use Rattle.std.proofs.Common.{take}
+use Rattle.reo_growth.specs.Lists.{has}
+use Rattle.reo_growth.specs.Marks.{Changes, met}
+use Rattle.reo_growth.proofs.marks.mark_known.Given as goal
+
+abbrev pub invariant-loop-name : goal.invariant-loop-name
+invariant-loop-name l = Changes (has (take l.name-index l.names)) met l.initial.marks l.marks

@@ -1,0 +1,5 @@
+pub mod RegionWeb
+pub mod Laws
+pub mod Table
+pub mod Places
+pub mod Refusal

@@ -1,0 +1,10 @@
+//! The tables of the regions of a circuit.
+#![tactic(auto)]
+
+mod laws;
+mod places;
+mod table;
+mod web;
+
+pub use table::{Firing, ProductRefusal, RegionTable, table_of_automata};
+pub use laws::{steps_split_into_firings, webs_are_regions};
