@@ -1,15 +1,17 @@
 -- Laws of the tokens of a line.
 use Prim.Native.Nat.{zero}
-use Rattle.std.proofs.Common.{◌≡◌, ℕ, suc, ◌+◌, ◌-◌, ◌<◌, ◌≤◌, ◌≢◌, Bool, true, false, List, [], ◌∷◌, ◌++◌, length, drop, get_or, Option, Some, None, refl, sym, ap, subst, ◌∙◌, arith, add-one, drop-cons, drop_of_length-le, append_assoc, append-nil, length-append, length-drop, if◌then◌else◌}
+use Rattle.std.proofs.Common.{◌≡◌, ℕ, suc, ◌+◌, ◌-◌, ◌<◌, ◌≤◌, ◌≢◌, Bool, true, false, List, [], ◌∷◌, ◌++◌, length, All, drop, get_or, Option, Some, None, refl, sym, ap, subst, ◌∙◌, arith, add-one, drop-cons, drop_of_length-le, append_assoc, append-nil, length-append, length-drop, if◌then◌else◌}
 use Rattle.std.specs.Option.{option_map}
+use Rattle.std.proofs.lemmas.List.Elements.{All-nil, All-push}
 use Rattle.std.proofs.lemmas.List.Sums.{prefix_len-le-length}
 use Rattle.reo_token.specs.declared.line.Step.TheVariants.{Closes, Bad, On}
 use Rattle.reo_token.specs.declared.token.Token.{Token}
 use Rattle.reo_token.specs.declared.token.Lexeme.{Lexeme}
+use Rattle.reo_token.specs.declared.token.Lexeme.TheVariants.{Text}
 use Rattle.reo_token.specs.declared.token.End.{End}
 use Rattle.reo_token.specs.declared.token.End.TheVariants as ends
 use Rattle.reo_token.specs.Bytes.{is_blank}
-use Rattle.reo_token.specs.Cut.{text_step, text_by, text_len, is_over, blanks, token_at, first_token, cut}
+use Rattle.reo_token.specs.Cut.{text_step, text_by, text_len, is_over, blanks, token_at, first_token, cut, IsWithin}
 
 -- a text goes on as its next byte says
 pub text_len-at : (bytes : List ℕ) (at : ℕ) (escaped : Bool) → at < length bytes
@@ -75,9 +77,10 @@ pub record Cuts (line rest : List ℕ) (tokens : List Token) : Type 0 where
   pub at : ℕ
   pub place : at + length rest ≡ length line
   pub so_far : cut 512 0 line ≡ in_front tokens (cut left at rest)
+  pub within : All (IsWithin (length line)) tokens
 
 pub Cuts-start : (line : List ℕ) → Cuts line line []
-Cuts-start line = record { left = 512; room = refl; at = 0; place = omega arith; so_far = refl }
+Cuts-start line = record { left = 512; room = refl; at = 0; place = omega arith; so_far = refl; within = All-nil (IsWithin (length line)) }
 
 Cuts-over : (line rest : List ℕ) (tokens : List Token) → Cuts line rest tokens → is_over (here rest) ≡ true → (tokens, ends.Over) ≡ cut 512 0 line
 Cuts-over line rest tokens cuts over =
@@ -110,17 +113,30 @@ abbrev pub token_from : List ℕ → List ℕ → Lexeme → ℕ → Token
 token_from line rest lexeme len =
     record { lexeme = lexeme; start = length line - length (here rest); end = length line - length (here rest) + len }
 
+-- a token of this kind has so many bytes at the front of these
+pub record IsToken (lexeme : Lexeme) (len : ℕ) (bytes : List ℕ) : Type 0 where
+  pub fits : len ≤ length bytes
+  pub some : 0 < len
+  pub quotes : lexeme ≡ Text → 2 ≤ len
+
 Cuts-token : (line rest : List ℕ) (tokens : List Token) (lexeme : Lexeme) (len : ℕ) → Cuts line rest tokens → is_over (here rest) ≡ false → length tokens ≢ 512
-    → token_at (here rest) ≡ Some (lexeme, len) → len ≤ length (here rest) → Cuts line (drop len (here rest)) (tokens ++ token_from line rest lexeme len ∷ [])
-Cuts-token line rest tokens lexeme len cuts more room is within = record {
+    → token_at (here rest) ≡ Some (lexeme, len) → IsToken lexeme len (here rest) → Cuts line (drop len (here rest)) (tokens ++ token_from line rest lexeme len ∷ [])
+Cuts-token line rest tokens lexeme len cuts more room is is_token = record {
   left = cuts.left - 1;
   room = omega (arith, cuts.room, room, length-append tokens (token_from line rest lexeme len ∷ []));
   at = cuts.at + blanks rest + len;
-  place = omega (arith, within, cuts.place, length-drop len (here rest), length-drop (blanks rest) rest, prefix_len-le-length is_blank rest);
+  place = omega (arith, is_token.fits, cuts.place, length-drop len (here rest), length-drop (blanks rest) rest, prefix_len-le-length is_blank rest);
   so_far =
       Cuts-next line rest tokens cuts (Some (lexeme, len)) more room is
       ∙ ap (λ at. in_front tokens (first_token (Some (lexeme, len)) at (λ n. cut (cuts.left - 1) (cuts.at + blanks rest + n) (drop n (here rest))))) (start line rest tokens cuts)
       ∙ ap (λ ts. (ts, (cut (cuts.left - 1) (cuts.at + blanks rest + len) (drop len (here rest))).1)) (sym (append_assoc tokens (token_from line rest lexeme len ∷ []) (cut (cuts.left - 1) (cuts.at + blanks rest + len) (drop len (here rest))).0));
+  within =
+      All-push (IsWithin (length line)) tokens (token_from line rest lexeme len) cuts.within
+      (record {
+        some = omega (arith, is_token.some);
+        end = omega (arith, is_token.fits, cuts.place, length-drop (blanks rest) rest, prefix_len-le-length is_blank rest);
+        quotes = λ text. omega (arith, is_token.quotes text);
+      });
 }
 
 -- The same where the blanks were skipped.
@@ -144,9 +160,9 @@ ends_bad line rest next tokens cuts skips more room none =
     (Cuts-bad line rest tokens cuts (sym (ap is_over skips.is) ∙ more) room (sym (ap token_at skips.is) ∙ none))
 
 pub goes_on_with : (line rest next after : List ℕ) (tokens : List Token) (lexeme : Lexeme) (len : ℕ) → Cuts line rest tokens → Skipped rest next → is_over next ≡ false → length tokens ≢ 512
-    → token_at next ≡ Some (lexeme, len) → len ≤ length next → after ≡ drop len next
+    → token_at next ≡ Some (lexeme, len) → IsToken lexeme len next → after ≡ drop len next
     → Cuts line after (tokens ++ record { lexeme = lexeme; start = length line - length next; end = length line - length next + len } ∷ [])
-goes_on_with line rest next after tokens lexeme len cuts skips more room is within behind =
+goes_on_with line rest next after tokens lexeme len cuts skips more room is is_token behind =
     subst (λ a. Cuts line a (tokens ++ record { lexeme = lexeme; start = length line - length next; end = length line - length next + len } ∷ [])) (sym behind)
     (subst (λ n. Cuts line (drop len n) (tokens ++ record { lexeme = lexeme; start = length line - length n; end = length line - length n + len } ∷ [])) (sym skips.is)
-    (Cuts-token line rest tokens lexeme len cuts (sym (ap is_over skips.is) ∙ more) room (sym (ap token_at skips.is) ∙ is) (subst (λ n. len ≤ length n) skips.is within)))
+    (Cuts-token line rest tokens lexeme len cuts (sym (ap is_over skips.is) ∙ more) room (sym (ap token_at skips.is) ∙ is) (subst (IsToken lexeme len) skips.is is_token)))

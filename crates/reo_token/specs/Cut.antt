@@ -1,6 +1,6 @@
 -- The tokens of a line, and how they end.
 use Prim.Native.Nat.{zero}
-use Rattle.std.specs.Prelude.{ℕ, suc, ◌+◌, ◌==◌, nat_lt, if◌then◌else◌, Bool, true, false, ◌&&◌, ◌||◌, List, [], ◌∷◌, length, take, drop, slice_index, Option, Some, None}
+use Rattle.std.specs.Prelude.{◌≡◌, ℕ, suc, ◌+◌, ◌<◌, ◌≤◌, ◌==◌, nat_lt, if◌then◌else◌, Bool, true, false, ◌&&◌, ◌||◌, List, [], ◌∷◌, length, take, drop, slice_index, Option, Some, None}
 use Rattle.std.specs.List.{prefix_len, list_all}
 use Rattle.std.specs.Option.{option_map}
 use Rattle.reo_token.specs.declared.bytes.TheConstants.{SPACE, QUOTE, HASH, MINUS, ZERO, BACKSLASH}
@@ -102,3 +102,9 @@ cut zero at bytes = ([], if is_over (drop (blanks bytes) bytes) then ends.Over e
 cut (suc n) at bytes =
     let here = drop (blanks bytes) bytes in
     if is_over here then ([], ends.Over) else first_token (token_at here) (at + blanks bytes) (λ len. cut n (at + blanks bytes + len) (drop len here))
+
+-- the token stands in a line of so many bytes, and a text has its quotes there
+pub record IsWithin (len : ℕ) (token : Token) : Type 0 where
+  pub some : token.start < token.end
+  pub end : token.end ≤ len
+  pub quotes : token.lexeme ≡ Text → token.start + 2 ≤ token.end

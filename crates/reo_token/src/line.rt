@@ -1,5 +1,5 @@
 //! Cutting a line into its tokens.
-ghost use Rattle.std.specs.Prelude.{◌≡◌, ◌≤◌, ◌<◌, ◌+◌, ◌==◌, if◌then◌else◌, ◌^◌, length, drop, slice_index, false, IfOk, IfSome};
+ghost use Rattle.std.specs.Prelude.{◌≡◌, ◌≤◌, ◌<◌, ◌+◌, ◌==◌, if◌then◌else◌, ◌^◌, length, drop, slice_index, false, All, OnOk, IfOk, IfSome};
 ghost use Rattle.std.specs.List.{list_all};
 ghost use Rattle.reo_token.specs.Bytes as bytes_spec;
 ghost use Rattle.reo_token.specs.Cut as spec;
@@ -16,7 +16,8 @@ pub const MOST_TOKENS: usize = 512;
 /// The tokens of a line up to a bad one, or up to the most that a line may have.
 pub fn cut_line(tokens: &mut Vec<Token>, line: &[u8]) -> Result<End, AllocError>
     requires { length line.now < 2 ^ 32 }
-    ensures { IfOk result (λ end. (tokens.new.items, end) ≡ spec.cut MOST_TOKENS 0 line.now) }
+    ensures exact { IfOk result (λ end. (tokens.new.items, end) ≡ spec.cut MOST_TOKENS 0 line.now) }
+    ensures within { OnOk result (All (spec.IsWithin (length line.now)) tokens.new.items) }
 {
     tokens.clear();
     let mut rest = line;
@@ -77,6 +78,8 @@ fn run(bytes: &[u8]) -> usize
 fn token_at(bytes: &[u8]) -> Option<(Lexeme, usize)>
     ensures exact { result ≡ spec.token_at bytes.now }
     ensures within { IfSome result (λ t. t.1 ≤ length bytes.now) }
+    ensures some { IfSome result (λ t. 0 < t.1) }
+    ensures quotes { IfSome result (λ t. t.0 ≡ Lexeme.Text → 2 ≤ t.1) }
 {
     let (first, more) = bytes.split_first()?;
     let next = first_of(more);
