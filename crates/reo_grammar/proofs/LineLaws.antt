@@ -6,8 +6,8 @@ use Rattle.reo_grammar.specs.Token.{Token}
 use Rattle.reo_grammar.specs.Lines.{LineTree, is_allowed, Place, First, Circuit, Scripts, Sentence, sentence_of, IsLine}
 use Rattle.reo_grammar.specs.Wrong.{CanGoOn, IsFirstWrong}
 use Rattle.reo_grammar.specs.Laws.{SayOne, SayOrGoWrong, SayOrGoWrongAlone, GoWrongOnce}
-use Rattle.reo_grammar.specs.Machine.Run.{run}
-use Rattle.reo_grammar.specs.Machine.Lines.{State, LineStart, line_before, step, whole, go, IsStuck}
+use Rattle.reo_grammar.specs.Machine.Run.{run, IsStuck, GetsStuck}
+use Rattle.reo_grammar.specs.Machine.Lines.{State, LineStart, line_before, step, whole, go}
 use Rattle.reo_grammar.proofs.RunLemmas.{run-append, run-adds, run-keeps, run-front, run-stops, IfSome-of}
 use Rattle.reo_grammar.proofs.LineMachine.{IsShort, IsState, step_follows, finished, line_tail, line_ends, finished_lawful, IsWhole, whole_is}
 use Rattle.reo_grammar.proofs.ReadLine.{Reaches, reaches_line}
@@ -91,7 +91,7 @@ no_first : (other : Token) (more : List Token) → [] ≡ other ∷ more → ⊥
 no_first other more is = cc
 
 -- a run that is stuck stands at the first wrong token
-pub stuck_is_first_wrong : (place : Place) (front rest : List Token) (state : State) → go place front ≡ Some state → IsStuck place state rest → IsFirstWrong place (front ++ rest) rest
+pub stuck_is_first_wrong : (place : Place) (front rest : List Token) (state : State) → go place front ≡ Some state → IsStuck (step place) whole state rest → IsFirstWrong place (front ++ rest) rest
 stuck_is_first_wrong place front [] state led stuck = record {
   front = front;
   split = refl;
@@ -175,3 +175,8 @@ go_wrong_once place tokens one other wrong_one wrong_other = by (fronts wrong_on
         absurd (wrong_one.wrong token (more ++ other) r (goes_on_before place wrong_one.front token more (subst (CanGoOn place) e wrong_other.before)))
     by (longer token more e r) =
         absurd (wrong_other.wrong token (more ++ one) r (goes_on_before place wrong_other.front token more (subst (CanGoOn place) e wrong_one.before)))
+
+-- the tokens of a line that get stuck go wrong there
+pub gets_stuck_goes_wrong : (place : Place) (tokens rest : List Token) → GetsStuck (step place) whole LineStart tokens rest → IsFirstWrong place tokens rest
+gets_stuck_goes_wrong place tokens rest gets =
+    subst (λ ts. IsFirstWrong place ts rest) (sym gets.split) (stuck_is_first_wrong place gets.front rest gets.state gets.led gets.stuck)

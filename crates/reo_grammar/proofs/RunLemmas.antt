@@ -3,7 +3,7 @@ use Rattle.std.proofs.Common.{◌≡◌, List, [], ◌∷◌, ◌++◌, Option, 
 use Rattle.std.specs.Option.{option_map, option_and_then}
 use Rattle.std.proofs.lemmas.Option.{none-some, same_Some}
 use Rattle.reo_grammar.specs.Token.{Token}
-use Rattle.reo_grammar.specs.Machine.Run.{run}
+use Rattle.reo_grammar.specs.Machine.Run.{run, IsStuck, GetsStuck}
 
 pub run-append : {S : Type 0} (step : S → Token → Option S) (state : Option S) (front back : List Token) → run step state (front ++ back) ≡ run step (run step state front) back
 unfolding run
@@ -99,3 +99,34 @@ run-stops {S} step start (token ∷ tokens) is = by (step start token) refl is (
           led = run-step step start next token rest.front (Some rest.state) some rest.led;
           stuck = rest.stuck;
         }
+
+-- what is stuck behind some tokens, is stuck
+pub stuck_after : {S T : Type 0} (step : S → Token → Option S) (whole : S → Option T) (start middle : S) (front tokens rest all : List Token) → run step (Some start) front ≡ Some middle
+    → all ≡ front ++ tokens → GetsStuck step whole middle tokens rest → GetsStuck step whole start all rest
+stuck_after step whole start middle front tokens rest all led split gets = record {
+  front = front ++ gets.front;
+  split = split ∙ ap (λ ts. front ++ ts) gets.split ∙ sym (append_assoc front gets.front rest);
+  state = gets.state;
+  led = run-append step (Some start) front gets.front ∙ ap (λ s. run step s gets.front) led ∙ gets.led;
+  stuck = gets.stuck;
+}
+
+pub stuck_here : {S T : Type 0} (step : S → Token → Option S) (whole : S → Option T) (state : S) (tokens : List Token) → IsStuck step whole state tokens → GetsStuck step whole state tokens tokens
+unfolding run
+stuck_here step whole state tokens stuck = record { front = []; split = refl; state = state; led = refl; stuck = stuck; }
+
+-- what is stuck in a machine inside another one, is stuck in that
+pub stuck_map : {S T U V : Type 0} (f : S → T) (g : U → V) (inner : S → Token → Option S) (outer : T → Token → Option T) (whole_inner : S → Option U) (whole_outer : T → Option V)
+    → ((s : S) (token : Token) → outer (f s) token ≡ option_map f (inner s token)) → ((s : S) → whole_outer (f s) ≡ option_map g (whole_inner s)) → (start : S) (tokens rest : List Token)
+    → GetsStuck inner whole_inner start tokens rest → GetsStuck outer whole_outer (f start) tokens rest
+stuck_map f g inner outer whole_inner whole_outer steps wholes start tokens rest gets = record {
+  front = gets.front;
+  split = gets.split;
+  state = f gets.state;
+  led = run-map f inner outer steps (Some start) gets.front ∙ ap (option_map f) gets.led;
+  stuck = by rest gets.stuck;
+}
+  where
+    by : (r : List Token) → IsStuck inner whole_inner gets.state r → IsStuck outer whole_outer (f gets.state) r
+    by [] stuck = wholes gets.state ∙ ap (option_map g) stuck
+    by (token ∷ more) stuck = steps gets.state token ∙ ap (option_map f) stuck

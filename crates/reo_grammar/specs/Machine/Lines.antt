@@ -1,5 +1,5 @@
 -- What has come of a line, and how it goes on.
-use Rattle.std.specs.Prelude.{◌≡◌, ℕ, nat_le, if◌then◌else◌, List, [], ◌∷◌, length, Option, Some, None}
+use Rattle.std.specs.Prelude.{ℕ, nat_le, if◌then◌else◌, List, [], ◌∷◌, length, Option, Some, None}
 use Rattle.std.specs.Option.{option_map}
 use Rattle.reo_value.specs.declared.op.Way.{Way}
 use Rattle.reo_value.specs.declared.op.Way.TheVariants as way
@@ -153,8 +153,3 @@ whole state = None
 -- the state behind some tokens of a line
 abbrev pub go : Place → List Token → Option State
 go place tokens = run (step place) (Some LineStart) tokens
-
--- nothing goes on from the state with what comes next, and where nothing comes, it is no line
-abbrev pub IsStuck : Place → State → List Token → Type 0
-IsStuck place state [] = whole state ≡ None
-IsStuck place state (token ∷ rest) = step place state token ≡ None
