@@ -234,12 +234,12 @@ whole_guard-have (Term term) = refl
 whole_guard-have (Or guard term) = refl
 
 -- The tokens of a tree lead to it.
-have_or : (place : GuardPlace) (guard : GuardTree) → guard_step (have_guard place guard) (word key.Or) ≡ Some (Want (Front (AfterOr place guard)))
+pub have_or : (place : GuardPlace) (guard : GuardTree) → guard_step (have_guard place guard) (word key.Or) ≡ Some (Want (Front (AfterOr place guard)))
 unfolding key_of
 have_or place (Term term) = refl
 have_or place (Or guard term) = refl
 
-have_close : (place : FactorPlace) (guard : GuardTree) → guard_step (have_guard (Bracket place) guard) (Sign Close) ≡ Some (put place (Brackets guard))
+pub have_close : (place : FactorPlace) (guard : GuardTree) → guard_step (have_guard (Bracket place) guard) (Sign Close) ≡ Some (put place (Brackets guard))
 have_close place (Term term) = refl
 have_close place (Or guard term) = refl
 
@@ -263,21 +263,21 @@ reads_atom place IsText = refl
 reads_atom place (LenAtMost most) = refl
 reads_atom place (Starts front) = refl
 
-run-end : (state : GuardState) → run guard_step (Some state) [] ≡ Some state
+pub run-end : (state : GuardState) → run guard_step (Some state) [] ≡ Some state
 unfolding run
 run-end state = refl
 
 -- some tokens, and then one more and others
-run-over : (state middle next : GuardState) (front back : List Token) (token : Token) (end : Option GuardState) → run guard_step (Some state) front ≡ Some middle
+pub run-over : (state middle next : GuardState) (front back : List Token) (token : Token) (end : Option GuardState) → run guard_step (Some state) front ≡ Some middle
     → guard_step middle token ≡ Some next → run guard_step (Some next) back ≡ end → run guard_step (Some state) (front ++ token ∷ back) ≡ end
 run-over state middle next front back token end led is rest =
     run-append guard_step (Some state) front (token ∷ back) ∙ ap (λ s. run guard_step s (token ∷ back)) led ∙ run-step guard_step middle next token back end is rest
 
-and_step : (place : TermPlace) (term : TermTree) → guard_step (Have place term) (word key.And) ≡ Some (Want (AfterAnd place term))
+pub and_step : (place : TermPlace) (term : TermTree) → guard_step (Have place term) (word key.And) ≡ Some (Want (AfterAnd place term))
 unfolding key_of
 and_step place term = refl
 
-not_step : (place : FactorPlace) → guard_step (Want place) (word key.Not) ≡ Some (Want (AfterNot place))
+pub not_step : (place : FactorPlace) → guard_step (Want place) (word key.Not) ≡ Some (Want (AfterNot place))
 unfolding key_of
 not_step place = refl
 

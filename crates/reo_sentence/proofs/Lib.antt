@@ -1,0 +1,5 @@
+pub mod ListLemmas
+pub mod SeenLemmas
+pub mod ReadingLemmas
+pub mod AtomLemmas
+pub mod GuardLemmas

@@ -1,0 +1,5 @@
+pub mod Seen
+pub mod Limits
+pub mod Numbered
+pub mod Reading
+pub mod GuardReading

@@ -1,0 +1,8 @@
+//! What one line of a document says, with its guards and functions, and its constants by number.
+#![tactic(auto)]
+
+mod cursor;
+mod guard;
+mod number;
+mod stop;
+mod text;
