@@ -9,7 +9,7 @@ use Rattle.reo_grammar.specs.Functions.{Function, Add, Sub, Mul, Neg, Len, Map, 
 use Rattle.reo_grammar.specs.Machine.Run.{run}
 use Rattle.reo_grammar.specs.Machine.Functions.{Operator, Adds, Subtracts, Multiplies, function_with, FunctionState, Start, AfterSign, AfterMap, WantFirst, HaveFirst, WantSecond, HavePairs, Over, opened, function_before, start_word, with_pair, function_step, whole_function}
 use Rattle.reo_grammar.proofs.KeyLemmas.{IsSpelled, key_spelled}
-use Rattle.reo_grammar.proofs.RunLemmas.{run-step}
+use Rattle.reo_grammar.proofs.RunLemmas.{run-append, run-step}
 
 -- Each step adds its token.
 abbrev pub StepAdds : FunctionState → Token → FunctionState → Type 0
@@ -51,7 +51,7 @@ arrow_adds : (pairs : List (Const × Const)) (first : Const) (token : Token) →
 arrow_adds pairs first (Sign Arrow) = ap (λ ts. word key.Map ∷ Sign OpenBrace ∷ ts) (sym (append_assoc (opened pairs) (const_token first ∷ []) (Sign Arrow ∷ [])))
 arrow_adds pairs first token = tt
 
-further-append : (pairs : List (Const × Const)) (last : Const × Const) → further_tokens (pairs ++ last ∷ []) ≡ further_tokens pairs ++ (Sign Comma ∷ pair_tokens last)
+pub further-append : (pairs : List (Const × Const)) (last : Const × Const) → further_tokens (pairs ++ last ∷ []) ≡ further_tokens pairs ++ (Sign Comma ∷ pair_tokens last)
 unfolding further_tokens
 further-append [] last = ap (λ ts. Sign Comma ∷ ts) (append-nil (pair_tokens last))
 further-append (pair ∷ pairs) last = ap (λ ts. Sign Comma ∷ (pair_tokens pair ++ ts)) (further-append pairs last)
@@ -149,37 +149,40 @@ leads_on : (state next : FunctionState) (token : Token) (tokens : List Token) (e
     → run function_step (Some next) tokens ≡ Some end → run function_step (Some state) (token ∷ tokens) ≡ Some end
 leads_on state next token tokens end is rest = run-step function_step state next token tokens (Some end) is rest
 
-first_step : (pairs : List (Const × Const)) (first : Const) → function_step (WantFirst pairs) (const_token first) ≡ Some (HaveFirst pairs first)
+pub first_step : (pairs : List (Const × Const)) (first : Const) → function_step (WantFirst pairs) (const_token first) ≡ Some (HaveFirst pairs first)
 first_step [] (Integer value) = refl
 first_step [] (Phrase value) = refl
 first_step (pair ∷ pairs) (Integer value) = refl
 first_step (pair ∷ pairs) (Phrase value) = refl
 
-second_step : (pairs : List (Const × Const)) (first second : Const) → function_step (WantSecond pairs first) (const_token second) ≡ Some (with_pair pairs (first, second))
+pub second_step : (pairs : List (Const × Const)) (first second : Const) → function_step (WantSecond pairs first) (const_token second) ≡ Some (with_pair pairs (first, second))
 second_step pairs first (Integer value) = refl
 second_step pairs first (Phrase value) = refl
 
 -- a pair, and then the rest
-reads_pair : (pairs : List (Const × Const)) (pair : Const × Const) (tokens : List Token) (end : FunctionState) → run function_step (Some (with_pair pairs pair)) tokens ≡ Some end
+pub reads_pair : (pairs : List (Const × Const)) (pair : Const × Const) (tokens : List Token) (end : FunctionState) → run function_step (Some (with_pair pairs pair)) tokens ≡ Some end
     → run function_step (Some (WantFirst pairs)) (pair_tokens pair ++ tokens) ≡ Some end
 reads_pair pairs pair tokens end rest =
     leads_on (WantFirst pairs) (HaveFirst pairs pair.0) (const_token pair.0) (Sign Arrow ∷ const_token pair.1 ∷ tokens) end (first_step pairs pair.0)
     (leads_on (HaveFirst pairs pair.0) (WantSecond pairs pair.0) (Sign Arrow) (const_token pair.1 ∷ tokens) end refl
     (leads_on (WantSecond pairs pair.0) (with_pair pairs pair) (const_token pair.1) tokens end (second_step pairs pair.0 pair.1) rest))
 
-reads_further : (pair : Const × Const) (pairs more : List (Const × Const))
-    → run function_step (Some (HavePairs pair pairs)) (further_tokens more ++ Sign CloseBrace ∷ []) ≡ Some (Over (Map (pair ∷ (pairs ++ more))))
+-- pairs lead from pair to pair
+leads_further : (pair : Const × Const) (pairs more : List (Const × Const)) → run function_step (Some (HavePairs pair pairs)) (further_tokens more) ≡ Some (HavePairs pair (pairs ++ more))
 unfolding further_tokens run
-reads_further pair pairs [] = ap (λ ps. Some (Over (Map (pair ∷ ps)))) (sym (append-nil pairs))
-reads_further pair pairs (next ∷ more) =
-    leads_on (HavePairs pair pairs) (WantFirst (pair ∷ pairs)) (Sign Comma) ((pair_tokens next ++ further_tokens more) ++ Sign CloseBrace ∷ []) _ refl
-    (reads_pair (pair ∷ pairs) next (further_tokens more ++ Sign CloseBrace ∷ []) _
-    (reads_further pair (pairs ++ next ∷ []) more ∙ ap (λ ps. Some (Over (Map (pair ∷ ps)))) (append_assoc pairs (next ∷ []) more)))
+leads_further pair pairs [] = ap (λ ps. Some (HavePairs pair ps)) (sym (append-nil pairs))
+leads_further pair pairs (next ∷ more) =
+    leads_on (HavePairs pair pairs) (WantFirst (pair ∷ pairs)) (Sign Comma) (pair_tokens next ++ further_tokens more) _ refl
+    (reads_pair (pair ∷ pairs) next (further_tokens more) _ (leads_further pair (pairs ++ next ∷ []) more ∙ ap (λ ps. Some (HavePairs pair ps)) (append_assoc pairs (next ∷ []) more)))
+
+pub leads_pairs : (pair : Const × Const) (pairs : List (Const × Const)) → run function_step (Some (WantFirst [])) (pairs_tokens (pair ∷ pairs)) ≡ Some (HavePairs pair pairs)
+leads_pairs pair pairs = reads_pair [] pair (further_tokens pairs) _ (leads_further pair [] pairs)
 
 reads_pairs : (pairs : List (Const × Const)) → run function_step (Some (WantFirst [])) (pairs_tokens pairs ++ Sign CloseBrace ∷ []) ≡ Some (Over (Map pairs))
 unfolding run
 reads_pairs [] = refl
-reads_pairs (pair ∷ pairs) = reads_pair [] pair (further_tokens pairs ++ Sign CloseBrace ∷ []) _ (reads_further pair [] pairs)
+reads_pairs (pair ∷ pairs) =
+    run-append function_step (Some (WantFirst [])) (pairs_tokens (pair ∷ pairs)) (Sign CloseBrace ∷ []) ∙ ap (λ s. run function_step s (Sign CloseBrace ∷ [])) (leads_pairs pair pairs)
 
 pub reads_function : (function : Function) → run function_step (Some Start) (function_tokens function) ≡ Some (Over function)
 unfolding run key_of

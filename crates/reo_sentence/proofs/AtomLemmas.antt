@@ -1,12 +1,12 @@
 -- Atoms, read part by part.
-use Rattle.std.proofs.Common.{◌≡◌, ◌≢◌, ℕ, ℤ, Bool, true, false, List, [], ◌∷◌, ◌++◌, Option, Some, None, IfSome, is_none, unwrap_or, refl, sym, ap, subst, ◌∙◌, append_assoc, append-nil}
+use Rattle.std.proofs.Common.{◌≡◌, ◌≢◌, ℕ, ℤ, false, List, [], ◌∷◌, ◌++◌, Option, Some, None, IfSome, is_none, unwrap_or, refl, sym, ap, subst, ◌∙◌, append_assoc}
 use Rattle.std.specs.Prelude.{Result, Ok, Err}
 use Rattle.std.specs.Result.{IfOk, IfErr}
 use Rattle.std.specs.Option.{option_map, option_and_then}
 use Rattle.std.proofs.lemmas.Bool.{false≢true}
 use Rattle.std.proofs.lemmas.Option.{none-some, same_Some}
 use Rattle.reo_token.specs.declared.token.Symbol.{Symbol}
-use Rattle.reo_token.specs.declared.token.Symbol.TheVariants.{Equal, NotEqual, Less, LessOrEqual, Greater, GreaterOrEqual, Open, Close}
+use Rattle.reo_token.specs.declared.token.Symbol.TheVariants.{Equal, NotEqual, Less, LessOrEqual, Greater, GreaterOrEqual}
 use Rattle.reo_guard.specs.declared.guard.Cmp.{Cmp}
 use Rattle.reo_guard.specs.declared.guard.Cmp.TheVariants.{Eq, Ne, Lt, Le, Gt, Ge}
 use Rattle.reo_guard.specs.declared.guard.Guard as numbered
@@ -15,19 +15,18 @@ use Rattle.reo_value.specs.declared.value.Value.{Value}
 use Rattle.reo_grammar.specs.declared.key.Key.{Key}
 use Rattle.reo_grammar.specs.declared.key.Key.TheVariants as key
 use Rattle.reo_grammar.specs.Key.{key_of}
-use Rattle.reo_grammar.specs.Token.{Token, Word, Number, Text, Sign, Const, const_token, word}
-use Rattle.reo_grammar.specs.Guards.{Atom, Compare, Mod, IsInt, IsText, LenAtMost, Starts, sign_of}
+use Rattle.reo_grammar.specs.Token.{Token, Word, Number, Text, Sign, const_token, word}
+use Rattle.reo_grammar.specs.Guards.{Compare, Mod, IsInt, IsText, LenAtMost, Starts, sign_of}
 use Rattle.reo_grammar.specs.Machine.Run.{run, IsStuck}
-use Rattle.reo_grammar.specs.Machine.Guards.{Part, AfterX, AfterCmp, AfterMod, AfterDivisor, AfterEqual, AfterIs, AfterLen, AfterAtMost, AfterStarts, part_tokens, More, cmp_of, number_of, text_of, const_of, token_key, at_x_word, at_is, part_step, FactorPlace, Within, with_progress, guard_step, whole_guard}
-use Rattle.reo_grammar.proofs.RunLemmas.{run-step}
+use Rattle.reo_grammar.specs.Machine.Guards.{Part, AfterX, AfterCmp, AfterMod, AfterDivisor, AfterEqual, AfterIs, AfterLen, AfterAtMost, AfterStarts, part_tokens, More, cmp_of, token_key, at_x_word, at_is, part_step, FactorPlace, Within, with_progress, guard_step, whole_guard}
 use Rattle.reo_sentence.specs.declared.cursor.Cursor.{Cursor}
 use Rattle.reo_sentence.specs.declared.stop.Stop.{Stop}
 use Rattle.reo_sentence.specs.declared.stop.Stop.TheVariants as stop
-use Rattle.reo_sentence.specs.Limits.{in_range, small_remainder, small_length}
+use Rattle.reo_sentence.specs.Limits.{small_remainder, small_length}
 use Rattle.reo_sentence.specs.Numbered.{mod_guard}
-use Rattle.reo_sentence.specs.Reading.{left, next_key, next_symbol, next_number, next_text, next_const, Takes, Advances, Goes, Notes, TakesNumber, Reads, ReadsText, ReadsConst, StopsAt, Refuses}
+use Rattle.reo_sentence.specs.Reading.{left, next_key, next_symbol, next_number, next_text, next_const, Takes, Advances, Goes, Notes, Reads, ReadsText, ReadsConst, Refuses}
 use Rattle.reo_sentence.specs.GuardReading.{Completes, StopsIn}
-use Rattle.reo_sentence.proofs.ReadingLemmas.{symbol_taken, Goes-left, Goes-one, Goes-on, Halts-here, Halts-behind, Reads-then_as, Reads-behind, Reads-noted, notes_nothing}
+use Rattle.reo_sentence.proofs.ReadingLemmas.{symbol_taken, Goes-left, Goes-one, Halts-behind, Reads-then_as, Reads-behind, Reads-noted, notes_nothing}
 
 pub IfOk-with : {V E : Type 0} (result : Result V E) (P Q : V → Type 0) → ((v : V) → P v → Q v) → IfOk result P → IfOk result Q
 IfOk-with (Ok v) P Q f p = f v p
@@ -163,8 +162,8 @@ completes_mod old new last known divisor remainder parts made takes is notes val
   front = Number remainder ∷ [];
   whole = refl;
   reads =
-    Reads-noted old new last known known (Number remainder) (is_none parts) false _ false _ made takes notes (ap is_none is) refl
-    (λ some l. ap (λ g. (known, g)) (sym (mod_value parts made some value ∙ ap mod_guard is)));
+      Reads-noted old new last known known (Number remainder) (is_none parts) false _ false _ made takes notes (ap is_none is) refl
+      (λ some l. ap (λ g. (known, g)) (sym (mod_value parts made some value ∙ ap mod_guard is)));
 }
 
 -- Behind is.
@@ -177,17 +176,17 @@ stuck_is (token ∷ tokens) not_int not_text = by (token_key token) not_int not_
     by key.Text not_int not_text = absurd (not_text refl)
     by k not_int not_text = refl
 
-plain_reads : {V : Type 0} (old new : Cursor) (known : List (List ℕ)) (token : Token) (value : V) → Takes old new token → Reads old new known known (token ∷ []) false false (λ texts. (texts, value)) value
+pub plain_reads : {V : Type 0} (old new : Cursor) (known : List (List ℕ)) (token : Token) (value : V) → Takes old new token → Reads old new known known (token ∷ []) false false (λ texts. (texts, value)) value
 plain_reads old new known token value takes = Reads-noted old new new known known token false false false false _ value takes (nothing new) refl refl (λ w l. refl)
   where
     nothing : (cursor : Cursor) → Notes cursor cursor false false
     nothing cursor = notes_nothing cursor
 
 pub completes_int : (old new : Cursor) (known : List (List ℕ)) → Takes old new (word key.Int) → Completes AfterIs old new known known guard.IsInt
-completes_int old new known takes = record { atom = IsInt; front = word key.Int ∷ []; whole = refl; reads = plain_reads old new known (word key.Int) guard.IsInt takes; }
+completes_int old new known takes = record { atom = IsInt; front = word key.Int ∷ []; whole = refl; reads = plain_reads old new known (word key.Int) guard.IsInt takes }
 
 pub completes_text : (old new : Cursor) (known : List (List ℕ)) → Takes old new (word key.Text) → Completes AfterIs old new known known guard.IsText
-completes_text old new known takes = record { atom = IsText; front = word key.Text ∷ []; whole = refl; reads = plain_reads old new known (word key.Text) guard.IsText takes; }
+completes_text old new known takes = record { atom = IsText; front = word key.Text ∷ []; whole = refl; reads = plain_reads old new known (word key.Text) guard.IsText takes }
 
 -- Behind len.
 pub stuck_at_most : (tokens : List Token) → next_symbol tokens ≢ Some LessOrEqual → IsStuckPart AfterLen tokens
@@ -213,8 +212,8 @@ completes_length old new last known value most made takes is notes given = recor
   front = Number value ∷ [];
   whole = refl;
   reads =
-    Reads-noted old new last known known (Number value) (is_none most) false _ false _ made takes notes (ap is_none is) refl
-    (λ some l. ap (λ g. (known, g)) (sym (most_value most made some given ∙ ap (λ m. guard.LenAtMost (unwrap_or m 0)) is)));
+      Reads-noted old new last known known (Number value) (is_none most) false _ false _ made takes notes (ap is_none is) refl
+      (λ some l. ap (λ g. (known, g)) (sym (most_value most made some given ∙ ap (λ m. guard.LenAtMost (unwrap_or m 0)) is)));
 }
 
 -- Behind starts.

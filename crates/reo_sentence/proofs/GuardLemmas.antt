@@ -1,7 +1,6 @@
 -- Guards, read rule by rule.
-use Rattle.std.proofs.Common.{◌≡◌, ◌≢◌, ℕ, ◌+◌, ◌<◌, ◌≤◌, Bool, true, false, List, [], ◌∷◌, ◌++◌, length, Option, Some, None, refl, sym, ap, subst, ◌∙◌, append_assoc, append-nil, length-append, arith}
+use Rattle.std.proofs.Common.{◌≡◌, ◌≢◌, ℕ, ◌+◌, ◌≤◌, false, List, [], ◌∷◌, ◌++◌, length, Some, None, refl, sym, ap, subst, ◌∙◌, append-nil, length-append, arith}
 use Rattle.std.proofs.lemmas.Bool.{false≢true}
-use Rattle.reo_token.specs.declared.token.Symbol.{Symbol}
 use Rattle.reo_token.specs.declared.token.Symbol.TheVariants.{Open, Close}
 use Rattle.reo_guard.specs.declared.guard.Guard as numbered
 use Rattle.reo_guard.specs.declared.guard.Guard.TheVariants as guard
@@ -9,9 +8,9 @@ use Rattle.reo_grammar.specs.declared.key.Key.{Key}
 use Rattle.reo_grammar.specs.declared.key.Key.TheVariants as key
 use Rattle.reo_grammar.specs.Key.{key_of}
 use Rattle.reo_grammar.specs.Token.{Token, Word, Number, Text, Sign, word}
-use Rattle.reo_grammar.specs.Guards.{GuardTree, Term, Or, TermTree, Factor, And, FactorTree, Not, Brackets, Only, atom_tokens, guard_tokens, term_tokens, factor_tokens, guard_of, term_of, factor_of}
+use Rattle.reo_grammar.specs.Guards.{GuardTree, Term, Or, TermTree, Factor, And, Not, Brackets, Only, guard_tokens, term_tokens, factor_tokens, guard_of, term_of, factor_of}
 use Rattle.reo_grammar.specs.Machine.Run.{run, IsStuck}
-use Rattle.reo_grammar.specs.Machine.Guards.{Part, AfterX, AfterIs, AfterLen, AfterStarts, part_tokens, GuardPlace, Bracket, TermPlace, First, AfterOr, FactorPlace, Front, AfterAnd, AfterNot, GuardState, Want, Within, Have, factor_word, term_word, guard_step, whole_guard, guard_at_top, have_guard, place_around, guard_with}
+use Rattle.reo_grammar.specs.Machine.Guards.{Part, AfterX, AfterIs, AfterLen, AfterStarts, part_tokens, Bracket, TermPlace, First, AfterOr, FactorPlace, Front, AfterAnd, AfterNot, GuardState, Want, Within, Have, factor_word, term_word, guard_step, whole_guard, guard_at_top, have_guard, place_around, guard_with}
 use Rattle.reo_grammar.proofs.GuardMachine.{have_or, and_step, not_step, run-over, run-end, reads_guard, reads_term}
 use Rattle.reo_grammar.proofs.RunLemmas.{run-step}
 use Rattle.reo_sentence.specs.declared.cursor.Cursor.{Cursor}
@@ -19,14 +18,14 @@ use Rattle.reo_sentence.specs.declared.stop.Stop.{Stop}
 use Rattle.reo_sentence.specs.declared.stop.Stop.TheVariants as stop
 use Rattle.reo_sentence.specs.Limits.{is_wide_guard, is_long_guard}
 use Rattle.reo_sentence.specs.Numbered.{numbered_guard}
-use Rattle.reo_sentence.specs.Reading.{left, next_key, next_symbol, Takes, Goes, Reads, StopsAt}
+use Rattle.reo_sentence.specs.Reading.{left, next_key, next_symbol, Takes, Goes, Reads}
 use Rattle.reo_sentence.specs.GuardReading.{Completes, ReadsGuard, ReadsTerm, ReadsFactor, StopsIn, StopsFactor, StopsTerm, StopsGuard, is_joint, is_factor_key}
 use Rattle.reo_sentence.proofs.ReadingLemmas.{Goes-left, Goes-one, Goes-on, Halts-behind, Reads-in_turn, Reads-then_as, Reads-behind, Reads-before}
 
 -- What was read.
 pub reads_Term : (old new : Cursor) (known texts : List (List ℕ)) (made : numbered.Guard) → ReadsTerm old new known texts made → ReadsGuard old new known texts made
 unfolding guard_tokens guard_of
-reads_Term old new known texts made term = record { tree = Term term.tree; reads = term.reads; }
+reads_Term old new known texts made term = record { tree = Term term.tree; reads = term.reads }
 
 pub reads_Or : (old middle next new : Cursor) (known between texts : List (List ℕ)) (l r : numbered.Guard) → ReadsGuard old middle known between l → Takes middle next (word key.Or)
     → ReadsTerm next new between texts r → ReadsGuard old new known texts (guard.Or l r)
@@ -34,13 +33,13 @@ unfolding guard_tokens guard_of is_wide_guard is_long_guard numbered_guard
 reads_Or old middle next new known between texts l r first takes second = record {
   tree = Or first.tree second.tree;
   reads =
-    Reads-in_turn old middle new known between texts (guard_tokens first.tree) (word key.Or ∷ term_tokens second.tree) _ _ _ _ (numbered_guard (guard_of first.tree)) (numbered_guard (term_of second.tree)) guard.Or l r first.reads
-    (Reads-behind middle next new between texts (word key.Or) (term_tokens second.tree) _ _ _ r takes second.reads);
+      Reads-in_turn old middle new known between texts (guard_tokens first.tree) (word key.Or ∷ term_tokens second.tree) _ _ _ _ (numbered_guard (guard_of first.tree)) (numbered_guard (term_of second.tree)) guard.Or l r first.reads
+      (Reads-behind middle next new between texts (word key.Or) (term_tokens second.tree) _ _ _ r takes second.reads);
 }
 
 pub reads_Factor : (old new : Cursor) (known texts : List (List ℕ)) (made : numbered.Guard) → ReadsFactor old new known texts made → ReadsTerm old new known texts made
 unfolding guard_tokens guard_of
-reads_Factor old new known texts made factor = record { tree = Factor factor.tree; reads = factor.reads; }
+reads_Factor old new known texts made factor = record { tree = Factor factor.tree; reads = factor.reads }
 
 pub reads_And : (old middle next new : Cursor) (known between texts : List (List ℕ)) (l r : numbered.Guard) → ReadsTerm old middle known between l → Takes middle next (word key.And)
     → ReadsFactor next new between texts r → ReadsTerm old new known texts (guard.And l r)
@@ -48,8 +47,8 @@ unfolding guard_tokens guard_of is_wide_guard is_long_guard numbered_guard
 reads_And old middle next new known between texts l r first takes second = record {
   tree = And first.tree second.tree;
   reads =
-    Reads-in_turn old middle new known between texts (term_tokens first.tree) (word key.And ∷ factor_tokens second.tree) _ _ _ _ (numbered_guard (term_of first.tree)) (numbered_guard (factor_of second.tree)) guard.And l r first.reads
-    (Reads-behind middle next new between texts (word key.And) (factor_tokens second.tree) _ _ _ r takes second.reads);
+      Reads-in_turn old middle new known between texts (term_tokens first.tree) (word key.And ∷ factor_tokens second.tree) _ _ _ _ (numbered_guard (term_of first.tree)) (numbered_guard (factor_of second.tree)) guard.And l r first.reads
+      (Reads-behind middle next new between texts (word key.And) (factor_tokens second.tree) _ _ _ r takes second.reads);
 }
 
 pub reads_Not : (old middle new : Cursor) (known texts : List (List ℕ)) (made : numbered.Guard) → Takes old middle (word key.Not) → ReadsFactor middle new known texts made
@@ -58,8 +57,8 @@ unfolding guard_tokens guard_of is_wide_guard is_long_guard numbered_guard
 reads_Not old middle new known texts made takes inner = record {
   tree = Not inner.tree;
   reads =
-    Reads-behind old middle new known texts (word key.Not) (factor_tokens inner.tree) _ _ _ (guard.Not made) takes
-    (Reads-then_as middle new known texts (factor_tokens inner.tree) _ _ (numbered_guard (factor_of inner.tree)) guard.Not made inner.reads);
+      Reads-behind old middle new known texts (word key.Not) (factor_tokens inner.tree) _ _ _ (guard.Not made) takes
+      (Reads-then_as middle new known texts (factor_tokens inner.tree) _ _ (numbered_guard (factor_of inner.tree)) guard.Not made inner.reads);
 }
 
 pub reads_Brackets : (old first last new : Cursor) (known texts : List (List ℕ)) (made : numbered.Guard) → Takes old first (Sign Open) → ReadsGuard first last known texts made
@@ -68,8 +67,8 @@ unfolding guard_tokens guard_of
 reads_Brackets old first last new known texts made opens inner closes = record {
   tree = Brackets inner.tree;
   reads =
-    Reads-behind old first new known texts (Sign Open) (guard_tokens inner.tree ++ Sign Close ∷ []) _ _ _ made opens
-    (Reads-before first last new known texts (guard_tokens inner.tree) (Sign Close) _ _ _ made inner.reads closes);
+      Reads-behind old first new known texts (Sign Open) (guard_tokens inner.tree ++ Sign Close ∷ []) _ _ _ made opens
+      (Reads-before first last new known texts (guard_tokens inner.tree) (Sign Close) _ _ _ made inner.reads closes);
 }
 
 -- an atom behind its first word
@@ -79,9 +78,9 @@ unfolding guard_tokens guard_of is_wide_guard is_long_guard numbered_guard
 reads_Only part old middle new known texts token made is takes completes = record {
   tree = Only completes.atom;
   reads =
-    subst (λ ts. Reads old new known texts ts (is_wide_guard (factor_of (Only completes.atom))) (is_long_guard (factor_of (Only completes.atom))) (numbered_guard (factor_of (Only completes.atom))) made)
-    (ap (λ ts. ts ++ completes.front) (sym is) ∙ completes.whole)
-    (Reads-behind old middle new known texts token completes.front _ _ _ made takes completes.reads);
+      subst (λ ts. Reads old new known texts ts (is_wide_guard (factor_of (Only completes.atom))) (is_long_guard (factor_of (Only completes.atom))) (numbered_guard (factor_of (Only completes.atom))) made)
+      (ap (λ ts. ts ++ completes.front) (sym is) ∙ completes.whole)
+      (Reads-behind old middle new known texts token completes.front _ _ _ made takes completes.reads);
 }
 
 -- Where the reader stops.
@@ -202,14 +201,14 @@ pub stops_Close : (old first last new : Cursor) (known texts : List (List ℕ)) 
 stops_Close old first last new known texts made e is opens inner no_word goes no_sign =
     subst (StopsFactor old new) (sym is)
     (λ place. Halts-behind guard_step whole_guard (Want place) (Want (Front (First (Bracket place)))) old first new (Sign Open ∷ []) (Goes-one old first (Sign Open) opens)
-      (one_step (Want place) (Want (Front (First (Bracket place)))) (Sign Open) refl)
-      (record {
-        front = guard_tokens inner.tree ++ [];
-        goes = Goes-on first last new (guard_tokens inner.tree) [] inner.reads.goes goes;
-        state = have_guard (Bracket place) inner.tree;
-        led = ap (run guard_step (Some (Want (Front (First (Bracket place)))))) (append-nil (guard_tokens inner.tree)) ∙ reads_guard (Bracket place) inner.tree;
-        stuck = subst (IsStuck guard_step whole_guard (have_guard (Bracket place) inner.tree)) (Goes-left last new [] goes) (stuck_close place inner.tree (left last) no_word no_sign);
-      }))
+    (one_step (Want place) (Want (Front (First (Bracket place)))) (Sign Open) refl)
+    (record {
+      front = guard_tokens inner.tree ++ [];
+      goes = Goes-on first last new (guard_tokens inner.tree) [] inner.reads.goes goes;
+      state = have_guard (Bracket place) inner.tree;
+      led = ap (run guard_step (Some (Want (Front (First (Bracket place)))))) (append-nil (guard_tokens inner.tree)) ∙ reads_guard (Bracket place) inner.tree;
+      stuck = subst (IsStuck guard_step whole_guard (have_guard (Bracket place) inner.tree)) (Goes-left last new [] goes) (stuck_close place inner.tree (left last) no_word no_sign);
+    }))
 
 pub not_joint : (k : Key) → k ≢ key.Or → k ≢ key.And → is_joint k ≡ false
 not_joint key.Or no_or no_and = absurd (no_or refl)

@@ -3,3 +3,4 @@ pub mod SeenLemmas
 pub mod ReadingLemmas
 pub mod AtomLemmas
 pub mod GuardLemmas
+pub mod FunctionLemmas

@@ -1,18 +1,17 @@
 -- What a reader has taken, put together from its parts.
-use Rattle.std.proofs.Common.{◌≡◌, ◌≢◌, ℕ, ℤ, Bool, true, false, ◌||◌, List, [], ◌∷◌, ◌++◌, map, Option, Some, None, IfSome, is_none, not, if◌then◌else◌, refl, sym, ap, subst, ◌∙◌, append_assoc, append-nil}
+use Rattle.std.proofs.Common.{◌≡◌, ℕ, ℤ, Bool, true, false, ◌||◌, List, [], ◌∷◌, ◌++◌, map, Option, Some, None, IfSome, is_none, not, if◌then◌else◌, refl, sym, ap, subst, ◌∙◌, append_assoc}
 use Rattle.std.proofs.lemmas.List.{map-append}
 use Rattle.std.proofs.lemmas.Bool.{false≢true}
 use Rattle.std.proofs.lemmas.Option.{none-some, same_Some}
-use Rattle.reo_token.specs.declared.token.Token.{Token as CutToken}
 use Rattle.reo_token.specs.declared.token.Symbol.{Symbol}
 use Rattle.reo_grammar.specs.declared.key.Key.{Key}
 use Rattle.reo_grammar.specs.declared.key.Key.TheVariants as key
-use Rattle.reo_grammar.specs.Key.{key_of, spelled}
-use Rattle.reo_grammar.specs.Token.{Token, Word, Number, Text, Sign, Const, Integer, Phrase, const_token, word}
+use Rattle.reo_grammar.specs.Key.{key_of}
+use Rattle.reo_grammar.specs.Token.{Token, Word, Number, Text, Sign, Integer, Phrase, word}
 use Rattle.reo_grammar.specs.Machine.Run.{run, IsStuck}
 use Rattle.reo_grammar.specs.Machine.Guards.{token_key, text_of}
 use Rattle.reo_grammar.proofs.KeyLemmas.{IsSpelled, key_spelled}
-use Rattle.reo_grammar.proofs.RunLemmas.{run-append, run-step}
+use Rattle.reo_grammar.proofs.RunLemmas.{run-append}
 use Rattle.std.specs.Prelude.{Result, Ok, Err}
 use Rattle.std.specs.Result.{IfErr, IsErrAnd}
 use Rattle.reo_sentence.specs.declared.stop.Stop.{Stop}
@@ -34,18 +33,18 @@ Takes-left old new token takes =
     ap (map (seen old.line.now)) takes.rest ∙ ap (λ t. t ∷ map (seen old.line.now) new.rest.now) takes.is ∙ ap (λ l. token ∷ map (seen l) new.rest.now) (sym takes.line)
 
 pub Goes-here : (cursor : Cursor) → Goes cursor cursor []
-Goes-here cursor = record { passed = []; rest = refl; is = refl; line = refl; }
+Goes-here cursor = record { passed = []; rest = refl; is = refl; line = refl }
 
 pub Goes-one : (old new : Cursor) (token : Token) → Takes old new token → Goes old new (token ∷ [])
-Goes-one old new token takes = record { passed = takes.cut ∷ []; rest = takes.rest; is = ap (λ t. t ∷ []) takes.is; line = takes.line; }
+Goes-one old new token takes = record { passed = takes.cut ∷ []; rest = takes.rest; is = ap (λ t. t ∷ []) takes.is; line = takes.line }
 
 pub Goes-on : (old middle new : Cursor) (front back : List Token) → Goes old middle front → Goes middle new back → Goes old new (front ++ back)
 Goes-on old middle new front back first second = record {
   passed = first.passed ++ second.passed;
   rest = first.rest ∙ ap (λ ts. first.passed ++ ts) second.rest ∙ sym (append_assoc first.passed second.passed new.rest.now);
   is =
-    map-append (seen old.line.now) first.passed second.passed ∙ ap (λ ts. ts ++ map (seen old.line.now) second.passed) first.is
-    ∙ ap (λ l. front ++ map (seen l) second.passed) (sym first.line) ∙ ap (λ ts. front ++ ts) second.is;
+      map-append (seen old.line.now) first.passed second.passed ∙ ap (λ ts. ts ++ map (seen old.line.now) second.passed) first.is
+      ∙ ap (λ l. front ++ map (seen l) second.passed) (sym first.line) ∙ ap (λ ts. front ++ ts) second.is;
   line = second.line ∙ first.line;
 }
 
@@ -78,8 +77,8 @@ Reads-in_turn old middle new known between texts front back wide_1 wide_2 long_1
   wide_noted = other.wide_noted ∙ ap (λ w. w || wide_2) one.wide_noted ∙ or_assoc old.is_wide wide_1 wide_2;
   long_noted = other.long_noted ∙ ap (λ w. w || long_2) one.long_noted ∙ or_assoc old.is_long long_1 long_2;
   numbered = λ not_wide not_long.
-    let was = one.numbered (or_left middle.is_wide wide_2 (sym other.wide_noted ∙ not_wide)) (or_left middle.is_long long_2 (sym other.long_noted ∙ not_long)) in
-    ap (λ r. ((second r.0).0, with r.1 (second r.0).1)) was ∙ ap (λ r. (r.0, with a r.1)) (other.numbered not_wide not_long);
+      let was = one.numbered (or_left middle.is_wide wide_2 (sym other.wide_noted ∙ not_wide)) (or_left middle.is_long long_2 (sym other.long_noted ∙ not_long)) in
+      ap (λ r. ((second r.0).0, with r.1 (second r.0).1)) was ∙ ap (λ r. (r.0, with a r.1)) (other.numbered not_wide not_long);
 }
 
 -- the same value, seen as another
@@ -152,7 +151,7 @@ no_symbol cursor none = ap (λ ts. next_symbol (map (seen cursor.line.now) ts)) 
 -- the machine is stuck where the reader stands
 pub Halts-here : {S T : Type 0} (step : S → Token → Option S) (whole : S → Option T) (state : S) (cursor : Cursor) → IsStuck step whole state (left cursor) → Halts step whole state cursor cursor
 unfolding run
-Halts-here step whole state cursor stuck = record { front = []; goes = Goes-here cursor; state = state; led = refl; stuck = stuck; }
+Halts-here step whole state cursor stuck = record { front = []; goes = Goes-here cursor; state = state; led = refl; stuck = stuck }
 
 -- it is stuck behind what was taken
 pub Halts-behind : {S T : Type 0} (step : S → Token → Option S) (whole : S → Option T) (start middle : S) (old between new : Cursor) (front : List Token) → Goes old between front
@@ -167,7 +166,7 @@ Halts-behind step whole start middle old between new front goes led halts = reco
 
 -- What is noted of numbers and texts.
 pub notes_nothing : (cursor : Cursor) → Notes cursor cursor false false
-notes_nothing cursor = record { rest = refl; line = refl; wide_noted = sym (or_false cursor.is_wide); long_noted = sym (or_false cursor.is_long); }
+notes_nothing cursor = record { rest = refl; line = refl; wide_noted = sym (or_false cursor.is_wide); long_noted = sym (or_false cursor.is_long) }
 
 pub notes_wide : (cursor : Cursor) (wide : Bool) → wide ≡ false → Notes cursor cursor wide false
 notes_wide cursor wide is = subst (λ w. Notes cursor cursor w false) (sym is) (notes_nothing cursor)
@@ -216,8 +215,8 @@ reads_text old middle new known texts value None result is advances long notes g
 reads_text old middle new known texts value (Some n) result is advances adds notes given = record {
   text = value;
   reads =
-    Reads-noted old middle new known texts (Text value) false false false (is_long_text value) (numbered_text value) result (text_taken old middle value is advances) notes refl (sym adds.0)
-    (λ w l. adds.1 ∙ ap (λ r. (texts, r)) (sym given));
+      Reads-noted old middle new known texts (Text value) false false false (is_long_text value) (numbered_text value) result (text_taken old middle value is advances) notes refl (sym adds.0)
+      (λ w l. adds.1 ∙ ap (λ r. (texts, r)) (sym given));
 }
 
 in_range-wide : (value : ℤ) → is_none (in_range value) ≡ is_wide_number value
@@ -240,8 +239,8 @@ pub reads_number : (old middle new : Cursor) (known : List (List ℕ)) (number :
 reads_number old middle new known number result takes notes given = record {
   value = takes.value;
   reads =
-    Reads-noted old middle new known known (Number takes.value) (is_none number) false (is_wide_number takes.value) false (λ texts. (texts, takes.value)) result takes.takes notes
-    (ap is_none takes.is ∙ in_range-wide takes.value) refl (λ w l. ap (λ z. (known, z)) (sym (in_range-some takes.value number result takes.is w given)));
+      Reads-noted old middle new known known (Number takes.value) (is_none number) false (is_wide_number takes.value) false (λ texts. (texts, takes.value)) result takes.takes notes
+      (ap is_none takes.is ∙ in_range-wide takes.value) refl (λ w l. ap (λ z. (known, z)) (sym (in_range-some takes.value number result takes.is w given)));
 }
 
 pub const_of_number : (old new : Cursor) (known : List (List ℕ)) (number : ℤ) → ReadsNumber old new known number → ReadsConst old new known known (Int number)

@@ -1,7 +1,7 @@
 -- Numbers and texts, read byte by byte.
-use Rattle.std.proofs.Common.{◌≡◌, ℕ, suc, ◌+◌, ◌-◌, ◌*◌, ◌<◌, ◌≤◌, ◌==◌, nat_le, Bool, true, false, ◌||◌, if◌then◌else◌, List, [], ◌∷◌, ◌++◌, length, take, drop, get_or, Option, Some, None, refl, sym, ap, ◌∙◌, arith, add-one, drop-cons, drop_of_length-le, append_assoc, append-nil}
+use Rattle.std.proofs.Common.{◌≡◌, ℕ, ◌+◌, ◌-◌, ◌*◌, ◌<◌, ◌≤◌, ◌==◌, nat_le, Bool, true, false, ◌||◌, if◌then◌else◌, List, [], ◌∷◌, ◌++◌, length, drop, get_or, Some, None, refl, sym, ap, ◌∙◌, arith, add-one, drop-cons, drop_of_length-le, append_assoc, append-nil}
 use Rattle.std.specs.List.{list_any}
-use borrow.Author.Tests.{leb-true, le-leb}
+use borrow.Author.Tests.{leb-true}
 use Rattle.std.proofs.lemmas.Bool.{false≢true}
 use Rattle.reo_sentence.specs.Seen.{decimal_after, decimal_value, byte_step, behind_byte, unescaped_from, unescaped}
 use Rattle.reo_sentence.specs.Limits.{up_to}
@@ -16,7 +16,7 @@ pub record ReadDigits (digits : List ℕ) (at value : ℕ) : Type 0 where
   pub so_far : decimal_value digits ≡ decimal_after value (drop at digits)
 
 pub digits-start : (digits : List ℕ) → ReadDigits digits 0 0
-digits-start digits = record { so_far = refl; }
+digits-start digits = record { so_far = refl }
 
 digits-next : (digits : List ℕ) (at value : ℕ) → at < length digits → decimal_after value (drop at digits) ≡ decimal_after (10 * value + (get_or digits at 0 - 48)) (drop (at + 1) digits)
 digits-next digits at value here = rw (add-one, drop-cons digits at 0) refl
@@ -44,7 +44,7 @@ pub record ReadBytes (text : List ℕ) (at : ℕ) (escaped : Bool) (value : List
   pub so_far : unescaped text ≡ value ++ unescaped_from escaped (drop at text)
 
 pub bytes-start : (text : List ℕ) → ReadBytes text 0 false []
-bytes-start text = record { so_far = refl; }
+bytes-start text = record { so_far = refl }
 
 bytes-next : (text : List ℕ) (at : ℕ) (escaped : Bool) → at < length text
     → unescaped_from escaped (drop at text) ≡ behind_byte (byte_step escaped (get_or text at 0)) (λ next. unescaped_from next (drop (at + 1) text))
@@ -55,17 +55,17 @@ pub bytes-some : (text : List ℕ) (at : ℕ) (escaped next : Bool) (value after
     → Some byte ≡ byte_step escaped (get_or text at 0) → next ≡ false → after ≡ value ++ byte ∷ [] → ReadBytes text (at + 1) next after
 bytes-some text at escaped next value after byte reads here is plain pushed = record {
   so_far =
-    reads.so_far ∙ ap (λ bytes. value ++ bytes) (bytes-next text at escaped here ∙ ap (λ b. behind_byte b (λ n. unescaped_from n (drop (at + 1) text))) (sym is))
-    ∙ sym (append_assoc value (byte ∷ []) (unescaped_from false (drop (at + 1) text)))
-    ∙ ap (λ bytes. bytes ++ unescaped_from false (drop (at + 1) text)) (sym pushed) ∙ ap (λ n. after ++ unescaped_from n (drop (at + 1) text)) (sym plain);
+      reads.so_far ∙ ap (λ bytes. value ++ bytes) (bytes-next text at escaped here ∙ ap (λ b. behind_byte b (λ n. unescaped_from n (drop (at + 1) text))) (sym is))
+      ∙ sym (append_assoc value (byte ∷ []) (unescaped_from false (drop (at + 1) text)))
+      ∙ ap (λ bytes. bytes ++ unescaped_from false (drop (at + 1) text)) (sym pushed) ∙ ap (λ n. after ++ unescaped_from n (drop (at + 1) text)) (sym plain);
 }
 
 pub bytes-none : (text : List ℕ) (at : ℕ) (escaped next : Bool) (value after : List ℕ) → ReadBytes text at escaped value → at < length text → None ≡ byte_step escaped (get_or text at 0)
     → next ≡ true → after ≡ value → ReadBytes text (at + 1) next after
 bytes-none text at escaped next value after reads here is turned same = record {
   so_far =
-    reads.so_far ∙ ap (λ bytes. value ++ bytes) (bytes-next text at escaped here ∙ ap (λ b. behind_byte b (λ n. unescaped_from n (drop (at + 1) text))) (sym is))
-    ∙ ap (λ bytes. bytes ++ unescaped_from true (drop (at + 1) text)) (sym same) ∙ ap (λ n. after ++ unescaped_from n (drop (at + 1) text)) (sym turned);
+      reads.so_far ∙ ap (λ bytes. value ++ bytes) (bytes-next text at escaped here ∙ ap (λ b. behind_byte b (λ n. unescaped_from n (drop (at + 1) text))) (sym is))
+      ∙ ap (λ bytes. bytes ++ unescaped_from true (drop (at + 1) text)) (sym same) ∙ ap (λ n. after ++ unescaped_from n (drop (at + 1) text)) (sym turned);
 }
 
 pub bytes-end : (text : List ℕ) (at : ℕ) (escaped : Bool) (value : List ℕ) → ReadBytes text at escaped value → length text ≤ at → value ≡ unescaped text

@@ -3,3 +3,4 @@ pub mod Limits
 pub mod Numbered
 pub mod Reading
 pub mod GuardReading
+pub mod FunctionReading

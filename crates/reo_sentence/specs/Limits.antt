@@ -1,5 +1,5 @@
 -- Numbers out of range, and texts that are too long.
-use Rattle.std.specs.Prelude.{ℕ, ℤ, pos, negsuc, nat_lt, nat_le, if◌then◌else◌, Bool, true, false, ◌&&◌, ◌||◌, not, List, [], ◌∷◌, length, Option, Some, None, is_none, ◌-◌}
+use Rattle.std.specs.Prelude.{ℕ, ℤ, pos, negsuc, nat_lt, nat_le, if◌then◌else◌, Bool, false, ◌&&◌, ◌||◌, not, List, [], ◌∷◌, length, Option, Some, None, is_none, ◌-◌}
 use Rattle.std.specs.Option.{option_map, option_and_then}
 use Rattle.reo_grammar.specs.Token.{Const, Integer, Phrase}
 use Rattle.reo_grammar.specs.Guards.{Atom, Compare, Mod, IsInt, IsText, LenAtMost, Starts, Guard, Test, Both, Either, Fails}

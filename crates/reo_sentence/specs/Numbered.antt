@@ -1,5 +1,5 @@
 -- Constants by number: texts are numbered as they first come, from left to right.
-use Rattle.std.specs.Prelude.{◌≡◌, ℕ, ℤ, true, false, List, [], ◌∷◌, Option, Some, None, unwrap_or}
+use Rattle.std.specs.Prelude.{◌≡◌, ℕ, true, false, List, [], ◌∷◌, Option, Some, None, unwrap_or}
 use Rattle.reo_value.specs.Lexicon.{place_of, added}
 use Rattle.reo_value.specs.declared.value.Value.{Value}
 use Rattle.reo_value.specs.declared.value.Value.TheVariants.{Int, Sym}

@@ -1,5 +1,5 @@
 -- What a reader has taken of a line, in the words of the machine of the grammar.
-use Rattle.std.specs.Prelude.{◌≡◌, ℕ, ℤ, Bool, true, false, ◌||◌, List, [], ◌∷◌, ◌++◌, map, Option, Some, None}
+use Rattle.std.specs.Prelude.{◌≡◌, ℕ, ℤ, Bool, false, ◌||◌, List, [], ◌∷◌, ◌++◌, map, Option, Some, None}
 use Rattle.reo_token.specs.declared.token.Symbol.{Symbol}
 use Rattle.reo_token.specs.declared.token.Token.{Token as CutToken}
 use Rattle.reo_grammar.specs.declared.key.Key.{Key}

@@ -67,6 +67,13 @@ impl<'a> Cursor<'a> {
         }
     }
 
+    /// Whether the next token is this symbol.
+    pub(crate) fn sees_symbol(&self, symbol: Symbol) -> bool
+        ensures { IsTrue result ↔ (next_symbol (left self.now) ≡ Some symbol) }
+    {
+        self.symbol() == Some(symbol)
+    }
+
     /// Takes the next token.
     pub(crate) fn advance(&mut self)
         requires { self.old.rest.now ≢ [] }
@@ -105,9 +112,7 @@ impl<'a> Cursor<'a> {
     {
         let token = self.rest.first()?;
         match token.lexeme {
-            Lexeme::Number => Some(number(
-                &self.line[token.start as usize..token.end as usize],
-            )),
+            Lexeme::Number => Some(number(&self.line[token.start as usize..token.end as usize])),
             _ => None,
         }
     }

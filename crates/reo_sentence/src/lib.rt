@@ -2,6 +2,7 @@
 #![tactic(auto)]
 
 mod cursor;
+mod function;
 mod guard;
 mod number;
 mod stop;

@@ -11,7 +11,11 @@ use std::alloc::{AllocError, Global};
 const BACKSLASH: u8 = b'\\';
 
 /// The number of the text with these bytes between its quotes, which is added where it is new; nothing where it is too long.
-pub(crate) fn add_value(alloc: Global, texts: &mut Lexicon, text: &[u8]) -> Result<Option<u32>, Stop>
+pub(crate) fn add_value(
+    alloc: Global,
+    texts: &mut Lexicon,
+    text: &[u8],
+) -> Result<Option<u32>, Stop>
     ensures added { IfOk result (AddsText (unescaped text.now) texts.old texts.new) }
     ensures error { IfErr result (λ e. e ≡ Stop.NoMemory) }
 {

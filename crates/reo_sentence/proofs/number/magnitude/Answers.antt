@@ -1,4 +1,4 @@
-use Rattle.std.proofs.Common.{sym, ◌∙◌}
+use Rattle.std.proofs.Common.{◌∙◌}
 use Rattle.reo_sentence.proofs.SeenLemmas.{grows_too_large, digits-step}
 use Rattle.reo_sentence.proofs.number.magnitude.Goals as goal
 

@@ -1,4 +1,3 @@
-use Rattle.std.proofs.Common.{◌≤◌}
 use Rattle.reo_sentence.proofs.SeenLemmas.{ReadDigits}
 use Rattle.reo_sentence.proofs.number.magnitude.Given as goal
 

@@ -1,4 +1,3 @@
-use Rattle.std.proofs.Common.{◌≡◌, ◌++◌, drop}
 use Rattle.reo_sentence.proofs.SeenLemmas.{ReadBytes}
 use Rattle.reo_sentence.proofs.text.unescaped.Given as goal
 

@@ -1,15 +1,12 @@
-use Rattle.std.proofs.Common.{◌≡◌, ◌≢◌, refl, sym, ap, subst, ◌∙◌}
-use Rattle.std.proofs.lemmas.Bool.{false≢true}
-use Rattle.reo_token.specs.declared.token.Symbol.TheVariants.{Open, Close}
+use Rattle.std.proofs.Common.{refl, sym, subst}
 use Rattle.reo_guard.specs.declared.guard.Guard.TheVariants as guard
 use Rattle.reo_grammar.specs.declared.key.Key.TheVariants as key
-use Rattle.reo_grammar.specs.Token.{Sign, word}
+use Rattle.reo_grammar.specs.Token.{word}
 use Rattle.reo_grammar.specs.Machine.Guards.{AfterX, AfterIs, AfterLen, AfterStarts}
-use Rattle.reo_sentence.specs.Reading.{left, next_key}
 use Rattle.reo_sentence.specs.GuardReading.{ReadsGuard, ReadsTerm, ReadsFactor, StopsFactor, StopsTerm, StopsGuard}
 use Rattle.reo_sentence.proofs.ReadingLemmas.{passed_on, key_taken}
 use Rattle.reo_sentence.proofs.AtomLemmas.{IfOk-with, IfErr-with}
-use Rattle.reo_sentence.proofs.GuardLemmas.{reads_Term, reads_Or, reads_Factor, reads_And, reads_Not, reads_Brackets, reads_Only, stops_Factor, stops_Term, stops_And, stops_Or, stops_Not, stops_Open, begins_x, begins_is, begins_len, begins_starts, stops_Only, stops_no_factor, stops_Close, not_joint}
+use Rattle.reo_sentence.proofs.GuardLemmas.{reads_Term, reads_Or, reads_Factor, reads_And, reads_Not, reads_Brackets, reads_Only, stops_Factor, stops_Term, stops_And, stops_Or, stops_Not, stops_Open, begins_x, begins_is, begins_len, begins_starts, stops_Only, stops_no_factor, stops_Close}
 use Rattle.reo_sentence.proofs.cursor.Cursor.+guard.Goals as goal
 
 pub bracketed-returns-in_err-expect-clause-stops : goal.bracketed-returns-in_err-expect-clause-stops
@@ -96,11 +93,12 @@ guard-returns-in_err-right-clause-stops t c =
     (stops_Or c.args.self.now c.terms.self c.advance.new.self c.term-in-terms.new.self c.args.texts.now c.terms.texts c.terms.left c.in_err-right.field-0.0 c.terms.invariant.0 (key_taken c.terms.self c.advance.new.self key.Or (sym (c.sees.ensures.0 c.terms-test.true)) c.advance.ensures) c.in_err-right.ensures.stops)
 
 pub guard-terms-preserved : goal.guard-terms-preserved
-guard-terms-preserved t c =
-    (subst (λ l. ReadsGuard c.args.self.now c.term-in-terms.new.self c.args.texts.now c.term-in-terms.new.texts (guard.Or l c.in_ok-new-2.field-0)) (sym c.in_ok-new.ensures)
-    (subst (λ r. ReadsGuard c.args.self.now c.term-in-terms.new.self c.args.texts.now c.term-in-terms.new.texts (guard.Or c.terms.left r)) (sym c.in_ok-new-2.ensures)
-    (reads_Or c.args.self.now c.terms.self c.advance.new.self c.term-in-terms.new.self c.args.texts.now c.terms.texts c.term-in-terms.new.texts c.terms.left c.in_ok-right.right c.terms.invariant.0 (key_taken c.terms.self c.advance.new.self key.Or (sym (c.sees.ensures.0 c.terms-test.true)) c.advance.ensures) c.in_ok-right.ensures.reads)),
-    c.in_ok-right.ensures.whole)
+guard-terms-preserved t c = (
+  subst (λ l. ReadsGuard c.args.self.now c.term-in-terms.new.self c.args.texts.now c.term-in-terms.new.texts (guard.Or l c.in_ok-new-2.field-0)) (sym c.in_ok-new.ensures)
+      (subst (λ r. ReadsGuard c.args.self.now c.term-in-terms.new.self c.args.texts.now c.term-in-terms.new.texts (guard.Or c.terms.left r)) (sym c.in_ok-new-2.ensures)
+      (reads_Or c.args.self.now c.terms.self c.advance.new.self c.term-in-terms.new.self c.args.texts.now c.terms.texts c.term-in-terms.new.texts c.terms.left c.in_ok-right.right c.terms.invariant.0 (key_taken c.terms.self c.advance.new.self key.Or (sym (c.sees.ensures.0 c.terms-test.true)) c.advance.ensures) c.in_ok-right.ensures.reads)),
+  c.in_ok-right.ensures.whole,
+)
 
 pub term-returns-in_err-left-clause-stops : goal.term-returns-in_err-left-clause-stops
 term-returns-in_err-left-clause-stops t c =

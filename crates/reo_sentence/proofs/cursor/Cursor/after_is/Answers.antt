@@ -1,4 +1,4 @@
-use Rattle.std.proofs.Common.{refl, sym, ap, ◌∙◌}
+use Rattle.std.proofs.Common.{refl, ◌∙◌}
 use Rattle.reo_grammar.specs.declared.key.Key.TheVariants as key
 use Rattle.reo_grammar.specs.Machine.Guards.{AfterIs}
 use Rattle.reo_sentence.specs.Reading.{left}

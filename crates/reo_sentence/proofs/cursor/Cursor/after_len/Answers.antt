@@ -1,6 +1,6 @@
-use Rattle.std.proofs.Common.{refl, sym}
+use Rattle.std.proofs.Common.{refl}
 use Rattle.reo_token.specs.declared.token.Symbol.TheVariants.{LessOrEqual}
-use Rattle.reo_grammar.specs.Token.{Number, Sign}
+use Rattle.reo_grammar.specs.Token.{Sign}
 use Rattle.reo_grammar.specs.Machine.Guards.{AfterLen, AfterAtMost}
 use Rattle.reo_sentence.specs.GuardReading.{StopsIn}
 use Rattle.reo_sentence.specs.Reading.{left}

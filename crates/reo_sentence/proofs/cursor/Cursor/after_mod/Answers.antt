@@ -1,4 +1,4 @@
-use Rattle.std.proofs.Common.{refl, sym}
+use Rattle.std.proofs.Common.{refl}
 use Rattle.reo_token.specs.declared.token.Symbol.TheVariants.{Equal}
 use Rattle.reo_grammar.specs.Token.{Number, Sign}
 use Rattle.reo_grammar.specs.Machine.Guards.{AfterMod, AfterDivisor, AfterEqual}

@@ -1,10 +1,10 @@
-use Rattle.std.proofs.Common.{◌≡◌, refl, sym, ap, subst, ◌∙◌}
+use Rattle.std.proofs.Common.{refl, sym, ◌∙◌}
 use Rattle.std.proofs.lemmas.Bool.{false≢true}
 use Rattle.reo_grammar.specs.declared.key.Key.TheVariants as key
 use Rattle.reo_grammar.specs.Token.{word, Sign}
 use Rattle.reo_grammar.specs.Guards.{sign_of}
 use Rattle.reo_grammar.specs.Machine.Guards.{AfterX, AfterMod, AfterCmp}
-use Rattle.reo_sentence.specs.GuardReading.{StopsIn, Completes}
+use Rattle.reo_sentence.specs.GuardReading.{StopsIn}
 use Rattle.reo_sentence.specs.Reading.{left}
 use Rattle.reo_sentence.proofs.ReadingLemmas.{passed_on, key_taken, Goes-here}
 use Rattle.reo_sentence.proofs.AtomLemmas.{completes_behind, completes_compare, stops_here, stops_refused, stops_behind, stuck_x, stuck_const, cmp_step, cmp_taken, mod_step, IfOk-with, IfErr-with}
