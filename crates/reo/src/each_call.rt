@@ -79,7 +79,16 @@ fn a_document_is_read_checked_and_told(rt: HostRuntime) {
     assert_eq!(rt; datum_at(&fill, 1), Some(minus_five));
     assert!(rt; is_step(&net, &fill) && node_allows(&net, 0, &fill));
     if !net.channels().is_empty() {
-        assert!(rt; channel_allows(&net, 0, &[None], &fill, &[Some(minus_five)]));
+        assert!(rt;
+            channel_allows(
+                &net,
+                document.texts(),
+                0,
+                &[None],
+                &fill,
+                &[Some(minus_five)]
+            )
+        );
     }
     let report = Report {
         steps: Items::new(alloc),

@@ -14,7 +14,11 @@ use std::process::ExitCode;
 #[cfg(test)]
 mod each_call;
 #[cfg(test)]
+mod graphs;
+#[cfg(test)]
 mod guards;
+#[cfg(test)]
+mod kinds;
 #[cfg(test)]
 mod product_steps;
 #[cfg(test)]

@@ -45,7 +45,8 @@ fn allows(
     let before = state(alloc, old)?;
     let after = state(alloc, new)?;
     let fired = step(alloc, names)?;
-    Some(is_product_step(&net, before.as_slice(), &fired, after.as_slice()))
+    let texts = document.texts();
+    Some(is_product_step(&net, texts, before.as_slice(), &fired, after.as_slice()))
 }
 
 /// The names are `A!`, `B?`, `1.a` and `1.b`.

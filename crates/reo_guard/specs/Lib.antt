@@ -1,3 +1,4 @@
 pub mod Holds
 pub mod Yields
+pub mod Texts
 pub mod Laws

@@ -1,5 +1,5 @@
 //! Functions from data to data.
-ghost use Rattle.std.specs.Prelude.{◌≡◌, ◌≤◌, ◌↔◌, ℤ, pos, Some, FitsSigned, length};
+ghost use Rattle.std.specs.Prelude.{◌≡◌, ◌≤◌, ◌↔◌, ℤ, pos, Some, FitsSigned, length, IfOk};
 ghost use Rattle.std.specs.Option.{SomeIff};
 ghost use Rattle.std.specs.Int.{w64};
 ghost use Rattle.reo_value.specs.declared.value.Value.{Value as AnyValue};
@@ -8,6 +8,7 @@ ghost use Rattle.reo_guard.specs.Yields.{Yields, IsIntegerInRange, YieldsFirst};
 
 use reo_value::{Lexicon, Num, Value};
 use sqlite_items::Items;
+use std::alloc::{AllocError, Global};
 
 /// A function on data.
 #[derive(Drop)]
@@ -20,6 +21,22 @@ pub enum Fun {
     Len,
     /// The second of the first pair whose first is the datum.
     Map(Items<(Value, Value)>),
+}
+
+impl Fun {
+    /// A copy of the function.
+    pub fn try_clone(&self, alloc: Global) -> Result<Fun, AllocError>
+        ensures { IfOk result (λ copy. copy ≡ self.now) }
+    {
+        Ok(match self {
+            Fun::Add(more) => Fun::Add(*more),
+            Fun::Sub(less) => Fun::Sub(*less),
+            Fun::Mul(factor) => Fun::Mul(*factor),
+            Fun::Neg => Fun::Neg,
+            Fun::Len => Fun::Len,
+            Fun::Map(pairs) => Fun::Map(Items::from_slice(alloc, pairs.as_slice())?),
+        })
+    }
 }
 
 /// What a function yields at a datum, where it yields something. A text number that the list does not have counts as a

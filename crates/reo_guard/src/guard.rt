@@ -1,10 +1,11 @@
 //! Guards, which a datum meets or fails.
-ghost use Rattle.std.specs.Prelude.{◌≡◌, ◌↔◌, IsTrue};
+ghost use Rattle.std.specs.Prelude.{◌≡◌, ◌↔◌, IsTrue, IfOk};
 ghost use Rattle.reo_value.specs.Lexicon.{text_at};
 ghost use Rattle.reo_guard.specs.Holds.{Holds, Compares, order_of, HasRemainder, IsInteger, IsText, IsShort, StartsWith};
 
 use reo_value::{Lexicon, Value};
 use sqlite_items::Boxed;
+use std::alloc::{AllocError, Global};
 use std::cmp::Ordering;
 
 /// How two values are compared.
@@ -34,6 +35,39 @@ pub enum Guard {
     And(Boxed<Guard>, Boxed<Guard>),
     Or(Boxed<Guard>, Boxed<Guard>),
     Not(Boxed<Guard>),
+}
+
+impl Guard {
+    /// A copy of the guard.
+    #[cycle(copies)]
+    pub fn try_clone(&self, alloc: Global) -> Result<Guard, AllocError>
+        ensures { IfOk result (λ copy. copy ≡ self.now) }
+    {
+        Ok(match self {
+            Guard::Compare(cmp, constant) => Guard::Compare(*cmp, *constant),
+            Guard::Mod(divisor, remainder) => Guard::Mod(*divisor, *remainder),
+            Guard::IsInt => Guard::IsInt,
+            Guard::IsText => Guard::IsText,
+            Guard::LenAtMost(most) => Guard::LenAtMost(*most),
+            Guard::Starts(front) => Guard::Starts(*front),
+            Guard::And(left, right) => Guard::And(
+                copy_inside(alloc, left)?,
+                copy_inside(alloc, right)?,
+            ),
+            Guard::Or(left, right) => Guard::Or(
+                copy_inside(alloc, left)?,
+                copy_inside(alloc, right)?,
+            ),
+            Guard::Not(inner) => Guard::Not(copy_inside(alloc, inner)?),
+        })
+    }
+}
+
+#[cycle(copies)]
+fn copy_inside(alloc: Global, guard: &Boxed<Guard>) -> Result<Boxed<Guard>, AllocError>
+    ensures { IfOk result (λ copy. copy ≡ guard.now) }
+{
+    Boxed::new(alloc, guard.get().try_clone(alloc)?)
 }
 
 /// Whether a datum meets a guard. A text number that the list does not have counts as a text of no bytes.

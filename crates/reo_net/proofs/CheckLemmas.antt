@@ -1,15 +1,15 @@
 -- what the tables of a check say of the circuit
-use Rattle.std.proofs.Common.{◌≡◌, ℕ, ◌<◌, ⊎_elim, inl, Bool, true, false, List, length, slice_get, get_or, Some, refl, subst, arith}
+use Rattle.std.proofs.Common.{◌≡◌, ℕ, ◌<◌, ⊎_elim, inl, inr, Bool, true, false, not, List, length, slice_get, get_or, Some, refl, subst, ap, arith}
 use Rattle.std.proofs.lemmas.Bool.{cases_order}
 use Rattle.std.proofs.lemmas.Option.{slice_get_within, get_or_from_slice_get}
 use Rattle.reo_value.specs.declared.op.Way.{Way}
 use Rattle.reo_value.specs.declared.op.Way.TheVariants.{Put, Get}
-use Rattle.reo_net.specs.declared.circuit.Kind.{Kind}
-use Rattle.reo_net.specs.declared.circuit.Kind.TheVariants.{Fifo}
+use Rattle.reo_net.specs.declared.circuit.Channel.{Channel}
 use Rattle.reo_net.specs.declared.circuit.Port.{Port}
 use Rattle.reo_net.specs.declared.circuit.RawCircuit.{RawCircuit}
-use Rattle.reo_net.specs.Names.{Incoming, Outgoing, direction_of_b, end_a, end_b, IsPortAt}
-use Rattle.reo_net.specs.Tables.{Marks, IsKeyBelow, IsKeyTwiceBelow, IsPassBelow, table_for, is_marked}
+use Rattle.reo_net.specs.Kind.{Direction, Incoming, Outgoing, is_incoming, direction_of_b}
+use Rattle.reo_net.specs.Names.{end_a, end_b, IsPortAt, IsEndB}
+use Rattle.reo_net.specs.Tables.{Marks, IsKeyBelow, IsKeyTwiceBelow, IsPassBelow, IsSourceBelow, comes_out, table_for, is_marked}
 use Rattle.reo_net.specs.Checks.{IsCircuit, HasTwoPorts, HasEndLike, IsMixed}
 
 -- a port that is found at the node, as a name of the node
@@ -49,32 +49,47 @@ keys_from_HasTwoPorts c node two =
     (keys_in_order c two.second_way two.first_way node two.second two.first two.is_second two.is_first) order)
     (cases_order two.first two.second)
 
--- data come out of each channel at end b
-incoming_b : (kind : Kind) → direction_of_b kind ≡ Incoming
-incoming_b (Fifo first) = refl
+to_incoming : (direction : Direction) → is_incoming direction ≡ true → direction ≡ Incoming
+to_incoming Incoming e = refl
+to_incoming Outgoing e = cc
 
-not_outgoing_b : (kind : Kind) → direction_of_b kind ≡ Outgoing → ⊥
-not_outgoing_b (Fifo first) e = cc
+to_outgoing : (direction : Direction) → not (is_incoming direction) ≡ true → direction ≡ Outgoing
+to_outgoing Incoming e = cc
+to_outgoing Outgoing e = refl
+
+-- an end b where data go so is found by its test
+key_from_end : (c : RawCircuit) (direction : Direction) (test : Channel → Bool) (node name : ℕ) → IsEndB c direction node name
+    → ((channel : Channel) → direction_of_b channel.kind ≡ direction → test channel ≡ true) → IsPassBelow (λ channel. channel.b) test c.channels (length c.channels) node
+key_from_end c direction test node name at tests = record {
+  place = at.number;
+  element = at.channel;
+  within = slice_get_within c.channels at.number at.channel at.found;
+  found = at.found;
+  keyed = at.at;
+  passes = tests at.channel at.way;
+}
 
 module _ (c : RawCircuit) (circuit : IsCircuit c) (sinks sources : List Bool)
-    (sink_marks : Marks sinks c.nodes (IsKeyBelow (λ channel. channel.b) c.channels (length c.channels)))
-    (source_marks : Marks sources c.nodes (IsKeyBelow (λ channel. channel.a) c.channels (length c.channels))) where
+    (sink_marks : Marks sinks c.nodes (IsPassBelow (λ channel. channel.b) comes_out c.channels (length c.channels)))
+    (source_marks : Marks sources c.nodes (IsSourceBelow c.channels (length c.channels))) where
   end_like : (way : Way) (node : ℕ) → node < c.nodes → get_or (table_for way sinks sources) node false ≡ true → HasEndLike c way node
   end_like Put node fits marked =
       let at = (sink_marks.each node fits).0 marked in
-      (end_b c at.place, record { number = at.place; channel = at.element; found = at.found; at = at.keyed; way = incoming_b at.element.kind; named = refl })
+      (end_b c at.place, record { number = at.place; channel = at.element; found = at.found; at = at.keyed; way = to_incoming (direction_of_b at.element.kind) at.passes; named = refl })
   end_like Get node fits marked =
-      let at = (source_marks.each node fits).0 marked in
-      (end_a c at.place, inl (record { number = at.place; channel = at.element; found = at.found; at = at.keyed; named = refl }))
+      ⊎_elim
+      (λ at. (end_a c at.place, inl (record { number = at.place; channel = at.element; found = at.found; at = at.keyed; named = refl })))
+      (λ at. (end_b c at.place, inr (record { number = at.place; channel = at.element; found = at.found; at = at.keyed; way = to_outgoing (direction_of_b at.element.kind) at.passes; named = refl })))
+      ((source_marks.each node fits).0 marked)
 
   like_marked : (way : Way) (node : ℕ) → node < c.nodes → HasEndLike c way node → get_or (table_for way sinks sources) node false ≡ true
   like_marked Put node fits like =
-      let at = like.1 in
-      (sink_marks.each node fits).1 (record { place = at.number; element = at.channel; within = slice_get_within c.channels at.number at.channel at.found; found = at.found; keyed = at.at })
+      (sink_marks.each node fits).1 (key_from_end c Incoming comes_out node like.0 like.1 (λ channel way. ap is_incoming way))
   like_marked Get node fits like =
-      ⊎_elim
-      (λ at. (source_marks.each node fits).1 (record { place = at.number; element = at.channel; within = slice_get_within c.channels at.number at.channel at.found; found = at.found; keyed = at.at }))
-      (λ at. absurd (not_outgoing_b at.channel.kind at.way)) like.1
+      (source_marks.each node fits).1 (⊎_elim
+      (λ at. inl (record { place = at.number; element = at.channel; within = slice_get_within c.channels at.number at.channel at.found; found = at.found; keyed = at.at }))
+      (λ at. inr (key_from_end c Outgoing (λ channel. not (comes_out channel)) node like.0 at (λ channel way. ap (λ way. not (is_incoming way)) way)))
+      like.1)
 
   -- a port's node is one of the circuit's
   port_fits : (p : ℕ) (port : Port) → slice_get c.ports p ≡ Some port → port.node < c.nodes

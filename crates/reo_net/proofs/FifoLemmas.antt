@@ -1,75 +1,48 @@
 -- laws of states while each channel is a FIFO1: its place in a state is its number
-use Rattle.std.proofs.Common.{◌≡◌, ℕ, suc, zero, ◌≤◌, true, cond, List, [], ◌∷◌, ◌++◌, length, slice_get, get_or, take, count_by, flat_map, Option, Some, None, refl, sym, ap, ◌∙◌, arith}
-use Rattle.std.proofs.lemmas.List.{length-take-le}
-use Rattle.std.proofs.lemmas.List.Sums.{sum_by-cons}
-use Rattle.std.proofs.lemmas.Option.{same_Some}
+use Rattle.std.proofs.Common.{◌≡◌, ℕ, suc, zero, ◌+◌, ◌<◌, ◌≤◌, true, cond, List, [], ◌∷◌, length, slice_get, get_or, take, All, Option, Some, None, refl, sym, ap, ◌∙◌, subst, arith}
+use Rattle.std.proofs.Math.Seq.{take-length}
+use Rattle.std.proofs.lemmas.Option.{slice_get_within, get_or_from_slice_get}
 use Rattle.reo_value.specs.declared.value.Value.{Value}
-use Rattle.reo_net.specs.declared.circuit.Kind.{Kind}
-use Rattle.reo_net.specs.declared.circuit.Kind.TheVariants.{Fifo}
 use Rattle.reo_net.specs.declared.circuit.Channel.{Channel}
 use Rattle.reo_net.specs.declared.circuit.RawCircuit.{RawCircuit}
-use Rattle.reo_net.specs.Steps.{State, is_fifo, cell_of, content, IsState}
-use Rattle.reo_net.specs.Runs.{first_content, initial_state}
+use Rattle.reo_net.specs.Kind.{is_fifo}
+use Rattle.reo_net.specs.Steps.{State, cell_of, content, IsState}
+use Rattle.reo_net.specs.Checks.{IsFifoOnly}
+use Rattle.reo_net.proofs.CellLemmas.{fifos, fifos-more, content_at}
 
-pub is_fifo_always : (kind : Kind) → is_fifo kind ≡ true
-is_fifo_always (Fifo first) = refl
+-- each of the channels is a FIFO1
+AreFifos : List Channel → Type 0
+AreFifos channels = (k : ℕ) (channel : Channel) → slice_get channels k ≡ Some channel → is_fifo channel.kind ≡ true
 
-pub fifo_count : (channels : List Channel) → count_by (λ channel. is_fifo channel.kind) channels ≡ length channels
-fifo_count [] = refl
-fifo_count (channel ∷ channels) =
-    let one : ◌≡◌ {A = ℕ} (cond (is_fifo channel.kind) 1 0) 1 = ap (λ b. cond b 1 0) (is_fifo_always channel.kind) in
-    let step = sum_by-cons (λ ch. cond (is_fifo ch.kind) 1 0) channel channels in
-    let rest = fifo_count channels in
-    step ∙ (omega (arith, one, rest))
+are_all : (k : ℕ) (channels : List Channel) → AreFifos channels → k ≤ length channels → fifos (take k channels) ≡ k
+unfolding AreFifos
+are_all zero channels each h = refl
+are_all (suc k) [] each h = absurd (omega arith)
+are_all (suc k) (channel ∷ channels) each h =
+    fifos-more channel (take k channels) (each 0 channel refl) ∙ ap suc (are_all k channels (λ j ch found. each (suc j) ch found) (omega arith))
 
-pub cell_of_channel : (c : RawCircuit) (k : ℕ) → k ≤ length c.channels → cell_of c k ≡ k
-cell_of_channel c k within = fifo_count (take k c.channels) ∙ length-take-le k c.channels within
+module _ (c : RawCircuit) (only : IsFifoOnly c) where
+  pub fifo_at : (k : ℕ) (channel : Channel) → slice_get c.channels k ≡ Some channel → is_fifo channel.kind ≡ true
+  fifo_at k channel found =
+      subst (λ (ch : Channel). is_fifo ch.kind ≡ true) (get_or_from_slice_get c.channels k channel channel found) (only k channel (slice_get_within c.channels k channel found))
 
--- what channel k holds stands at place k
-pub content_at : (c : RawCircuit) (k : ℕ) (kind : Kind) (state : State) → k ≤ length c.channels → content c k kind state ≡ get_or state k None
-content_at c k (Fifo first) state within = ap (λ j. get_or state j None) (cell_of_channel c k within)
+  pub cell_is_number : (k : ℕ) → k ≤ length c.channels → cell_of c k ≡ k
+  unfolding AreFifos
+  cell_is_number k within = are_all k c.channels fifo_at within
 
--- a state has a place for each channel
-pub state_length : (c : RawCircuit) (state : State) → IsState c state → length state ≡ length c.channels
-state_length c state is_state = is_state ∙ fifo_count c.channels
+  -- what channel k holds stands at place k
+  pub content_by_number : (k : ℕ) (channel : Channel) (state : State) → slice_get c.channels k ≡ Some channel → content c k channel.kind state ≡ get_or state k None
+  content_by_number k channel state found =
+      let within = slice_get_within c.channels k channel found in
+      content_at c k channel.kind state (fifo_at k channel found) ∙ ap (λ j. get_or state j None) (cell_is_number k (omega (arith, within)))
 
-pub state_from_length : (c : RawCircuit) (state : State) → length state ≡ length c.channels → IsState c state
-state_from_length c state len = len ∙ sym (fifo_count c.channels)
+  fifo_count : fifos c.channels ≡ length c.channels
+  unfolding AreFifos
+  fifo_count = ap fifos (sym (take-length c.channels)) ∙ are_all (length c.channels) c.channels fifo_at (omega arith)
 
--- a FIFO1 adds one place to a state
-module _ (rest : List (Option Value)) where
-  length-first_content : (kind : Kind) → length (first_content kind ++ rest) ≡ suc (length rest)
-  length-first_content (Fifo first) = refl
+  -- a state has a place for each channel
+  pub state_length : (state : State) → IsState c state → length state ≡ length c.channels
+  state_length state is_state = is_state ∙ fifo_count
 
-  first_content-head : (kind : Kind) (first : Option Value) → kind ≡ Fifo first → get_or (first_content kind ++ rest) 0 None ≡ first
-  first_content-head (Fifo f) first e = cc
-
-  first_content-tail : (kind : Kind) (i : ℕ) → get_or (first_content kind ++ rest) (suc i) None ≡ get_or rest i None
-  first_content-tail (Fifo f) i = refl
-
-first_contents : List Channel → State
-first_contents channels = flat_map (λ channel. first_content channel.kind) channels
-
-length-first_contents : (channels : List Channel) → length (first_contents channels) ≡ length channels
-unfolding first_contents
-length-first_contents [] = refl
-length-first_contents (channel ∷ channels) = length-first_content (first_contents channels) channel.kind ∙ ap suc (length-first_contents channels)
-
-pub length-initial_state : (c : RawCircuit) → length (initial_state c) ≡ length c.channels
-unfolding first_contents
-length-initial_state c = length-first_contents c.channels
-
-first_contents_at : (channels : List Channel) (i : ℕ) (channel : Channel) (first : Option Value) → slice_get channels i ≡ Some channel → channel.kind ≡ Fifo first → get_or (first_contents channels) i None ≡ first
-unfolding first_contents
-first_contents_at [] i channel first found fifo = cc
-first_contents_at (x ∷ xs) zero channel first found fifo = first_content-head (first_contents xs) x.kind first (ap (λ (ch : Channel). ch.kind) (same_Some x channel found) ∙ fifo)
-first_contents_at (x ∷ xs) (suc i) channel first found fifo = first_content-tail (first_contents xs) x.kind i ∙ first_contents_at xs i channel first found fifo
-
--- the initial state has the first datum of channel k at place k
-pub initial_state_at : (c : RawCircuit) (k : ℕ) (channel : Channel) (first : Option Value) → slice_get c.channels k ≡ Some channel → channel.kind ≡ Fifo first → get_or (initial_state c) k None ≡ first
-unfolding first_contents
-initial_state_at c = first_contents_at c.channels
-
--- the initial state is one
-pub initial_is_state : (c : RawCircuit) → IsState c (initial_state c)
-initial_is_state c = state_from_length c (initial_state c) (length-initial_state c)
+  pub state_from_length : (state : State) → length state ≡ length c.channels → IsState c state
+  state_from_length state len = len ∙ sym fifo_count

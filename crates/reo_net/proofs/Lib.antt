@@ -1,7 +1,13 @@
+pub mod KindLemmas
+pub mod CellLemmas
 pub mod TableLemmas
+pub mod EndTableLemmas
 pub mod CheckLemmas
+pub mod LoopLemmas
 pub mod NameLemmas
+pub mod StandLemmas
 pub mod FifoLemmas
 pub mod RunLemmas
 pub mod RegionLemmas
+pub mod RegionListLemmas
 pub mod StepLemmas

@@ -7,7 +7,8 @@ use Rattle.reo_value.specs.declared.op.Way.TheVariants.{Put, Get}
 use Rattle.reo_net.specs.declared.circuit.Channel.{Channel}
 use Rattle.reo_net.specs.declared.circuit.Port.{Port}
 use Rattle.reo_net.specs.declared.circuit.RawCircuit.{RawCircuit}
-use Rattle.reo_net.specs.Names.{name_count, end_a, end_b, Direction, Incoming, Outgoing, direction_of_b, IsPortAt, IsEndA, IsEndB, IsIncoming, IsOutgoing, IsNameOf}
+use Rattle.reo_net.specs.Kind.{Direction, Incoming, Outgoing, direction_of_b}
+use Rattle.reo_net.specs.Names.{name_count, end_a, end_b, IsPortAt, IsEndA, IsEndB, IsIncoming, IsOutgoing, IsNameOf}
 use Rattle.reo_net.specs.Checks.{IsCircuit}
 
 -- the element at a place within a list

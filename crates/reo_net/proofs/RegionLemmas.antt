@@ -1,5 +1,5 @@
 -- regions and connected firings while each channel is a FIFO1: each node is a region of its own
-use Rattle.std.proofs.Common.{◌≡◌, ℕ, ◌+◌, ◌<◌, ◌≤◌, ◌⊎◌, ⊎_elim, inr, List, length, map, get_or, Contains, refl, sym, ap, ◌∙◌, subst, arith, zero-add}
+use Rattle.std.proofs.Common.{◌≡◌, ℕ, ◌+◌, ◌<◌, ◌≤◌, ◌⊎◌, ⊎_elim, inr, List, length, map, get_or, Contains, Bool, IsTrue, refl, sym, ap, ◌∙◌, subst, arith, zero-add}
 use Rattle.std.specs.List.{range_with_len}
 use Rattle.std.proofs.lemmas.Bool.{false≢true}
 use Rattle.std.proofs.lemmas.List.{length-map, get_or-map}
@@ -8,36 +8,34 @@ use Rattle.reo_net.specs.declared.circuit.RawCircuit.{RawCircuit}
 use Rattle.reo_net.specs.Names.{IsNameOf}
 use Rattle.reo_net.specs.Regions.{Automaton, OfChannel, OfNode, automaton_number, HasName, IsSynchronous, SameRegion, here, linked, IsRegion, AreRegions, AutomatonFires, IsQuiet, HangsTogether, IsConnectedFiring}
 use Rattle.reo_net.specs.Laws.{IsNodeFiring, NodesAreRegions, RegionsAreSingle, FiringsAreNodes}
-use Rattle.reo_net.proofs.FifoLemmas.{is_fifo_always}
+use Rattle.reo_net.specs.Checks.{IsFifoOnly}
+use Rattle.reo_net.proofs.FifoLemmas.{fifo_at}
 use Rattle.reo_net.proofs.NameLemmas.{one_node}
-
--- no channel is synchronous
-pub no_sync_channel : (c : RawCircuit) (k : ℕ) → IsSynchronous c (OfChannel k) → ⊥
-no_sync_channel c k sync = false≢true (sym sync.2 ∙ is_fifo_always sync.0.kind)
 
 sync_from : (c : RawCircuit) (from : Automaton) {x : Automaton} → SameRegion c from x → IsSynchronous c from
 sync_from c from (here sync) = sync
 sync_from c from (linked name path sync at_x at_y) = sync_from c from path
 
-next_node : (c : RawCircuit) (node name : ℕ) (x y : Automaton) → x ≡ OfNode node → IsSynchronous c y → HasName c x name → HasName c y name → y ≡ OfNode node
-next_node c node name x (OfChannel k) is sync at_x at_y = absurd (no_sync_channel c k sync)
-next_node c node name x (OfNode other) is sync at_x at_y = ap OfNode (one_node c other node name at_y (subst (λ z. HasName c z name) is at_x))
+module _ (c : RawCircuit) (only : IsFifoOnly c) where
+  -- no channel is synchronous
+  pub no_sync_channel : (k : ℕ) → IsSynchronous c (OfChannel k) → ⊥
+  no_sync_channel k sync = false≢true (sym sync.2 ∙ fifo_at c only k sync.0 sync.1)
 
-single : (c : RawCircuit) (node : ℕ) {x : Automaton} → SameRegion c (OfNode node) x → x ≡ OfNode node
-single c node (here sync) = refl
-single c node (linked {x} {y} name path sync at_x at_y) = next_node c node name x y (single c node path) sync at_x at_y
+  next_node : (node name : ℕ) (x y : Automaton) → x ≡ OfNode node → IsSynchronous c y → HasName c x name → HasName c y name → y ≡ OfNode node
+  next_node node name x (OfChannel k) is sync at_x at_y = absurd (no_sync_channel k sync)
+  next_node node name x (OfNode other) is sync at_x at_y = ap OfNode (one_node c other node name at_y (subst (λ z. HasName c z name) is at_x))
 
-pub regions_are_single : RegionsAreSingle
-regions_are_single c node x path = single c node path
+  single : (node : ℕ) {x : Automaton} → SameRegion c (OfNode node) x → x ≡ OfNode node
+  single node (here sync) = refl
+  single node (linked {x} {y} name path sync at_x at_y) = next_node node name x y (single node path) sync at_x at_y
 
--- a node is a region
-pub node_is_region : (c : RawCircuit) (node : ℕ) → node < c.nodes → IsRegion c (OfNode node)
-node_is_region c node below = record {
-  synchronous = below;
-  least = λ x path. subst (λ y. automaton_number c (OfNode node) ≤ automaton_number c y) (sym (regions_are_single c node x path)) (omega arith);
-}
+  -- a node is a region
+  pub node_is_region : (node : ℕ) → node < c.nodes → IsRegion c (OfNode node)
+  node_is_region node below = record {
+    synchronous = below;
+    least = λ x path. subst (λ y. automaton_number c (OfNode node) ≤ automaton_number c y) (sym (single node path)) (omega arith);
+  }
 
-module _ (c : RawCircuit) where
   nodes : List ℕ
   nodes = range_with_len 0 c.nodes
 
@@ -56,12 +54,13 @@ module _ (c : RawCircuit) where
   number_at k h = get_or-map (automaton_number c) (map OfNode nodes) k (OfNode 0) 0 (omega (arith, root_count)) ∙ ap (automaton_number c) (root_at k (OfNode 0) h)
 
   every_root : (root : Automaton) → IsRegion c root → Contains (map OfNode nodes) root
-  every_root (OfChannel k) region = absurd (no_sync_channel c k region.synchronous)
+  every_root (OfChannel k) region = absurd (no_sync_channel k region.synchronous)
   every_root (OfNode node) region = (node, omega (arith, root_count, region.synchronous), root_at node (OfNode node) region.synchronous)
 
-  nodes_are_regions_here : AreRegions c (map OfNode nodes)
+  pub nodes_are_regions_here : AreRegions c (map OfNode (range_with_len 0 c.nodes))
+  unfolding nodes
   nodes_are_regions_here = record {
-    each = λ k d h. let below : k < c.nodes = omega (arith, root_count) in subst (IsRegion c) (sym (root_at k d below)) (node_is_region c k below);
+    each = λ k d h. let below : k < c.nodes = omega (arith, root_count) in subst (IsRegion c) (sym (root_at k d below)) (node_is_region k below);
     rising = λ k h.
         let len = length-map (map OfNode nodes) (automaton_number c) in
         let next : k + 1 < c.nodes = omega (arith, len, root_count) in
@@ -69,37 +68,39 @@ module _ (c : RawCircuit) where
     every = every_root;
   }
 
+  module _ (node : ℕ) (fires : ℕ → Bool) where
+    -- what a node fires is a connected firing of its region
+    pub connected_from_node : IsNodeFiring c node fires → IsConnectedFiring c (OfNode node) fires
+    connected_from_node firing =
+        let start : SameRegion c (OfNode node) (OfNode node) = here firing.is_node in
+        record {
+          some_name = firing.node_fires.input;
+          some_fires = firing.node_fires.chosen;
+          within = λ name fired. (OfNode node, start, firing.own name fired);
+          each = λ x path. subst (λ y. IsQuiet c y fires ⊎ AutomatonFires c y fires) (sym (single node path)) (inr firing.node_fires);
+          cells = firing.cells;
+          together = λ x y at_x at_y.
+              subst (HangsTogether c (OfNode node) fires x) (single node at_x.of_region ∙ sym (single node at_y.of_region)) here;
+        }
+
+    -- a connected firing of a node's region is one of the node
+    pub node_from_connected : IsConnectedFiring c (OfNode node) fires → IsNodeFiring c node fires
+    node_from_connected firing =
+        let own : (name : ℕ) → IsTrue (fires name) → IsNameOf c node name = λ name fired.
+        (let at = firing.within name fired in subst (λ x. HasName c x name) (single node at.1) at.2) in
+        let sync : node < c.nodes = sync_from c (OfNode node) (firing.within firing.some_name firing.some_fires).1 in
+        record {
+          is_node = sync;
+          node_fires = ⊎_elim (λ quiet. absurd (false≢true (sym (quiet firing.some_name (own firing.some_name firing.some_fires)) ∙ firing.some_fires))) (λ fired. fired) (firing.each (OfNode node) (here sync));
+          own = own;
+          cells = firing.cells;
+        }
+
+pub regions_are_single : RegionsAreSingle
+regions_are_single c only node x path = single c only node path
+
 pub nodes_are_regions : NodesAreRegions
-unfolding nodes
-nodes_are_regions c circuit = nodes_are_regions_here c
-
-module _ (c : RawCircuit) (node : ℕ) (fires : ℕ → Type 0) where
-  -- what a node fires is a connected firing of its region
-  pub connected_from_node : IsNodeFiring c node fires → IsConnectedFiring c (OfNode node) fires
-  connected_from_node firing =
-      let start : SameRegion c (OfNode node) (OfNode node) = here firing.is_node in
-      record {
-        some_name = firing.node_fires.input;
-        some_fires = firing.node_fires.chosen;
-        within = λ name fired. (OfNode node, start, firing.own name fired);
-        each = λ x path. subst (λ y. IsQuiet c y fires ⊎ AutomatonFires c y fires) (sym (regions_are_single c node x path)) (inr firing.node_fires);
-        cells = firing.cells;
-        together = λ x y at_x at_y path_x path_y name_x fires_x name_y fires_y.
-            subst (HangsTogether c (OfNode node) fires x) (regions_are_single c node x path_x ∙ sym (regions_are_single c node y path_y)) here;
-      }
-
-  -- a connected firing of a node's region is one of the node
-  pub node_from_connected : IsConnectedFiring c (OfNode node) fires → IsNodeFiring c node fires
-  node_from_connected firing =
-      let own : (name : ℕ) → fires name → IsNameOf c node name = λ name fired.
-      (let at = firing.within name fired in subst (λ x. HasName c x name) (regions_are_single c node at.0 at.1) at.2) in
-      let sync : node < c.nodes = sync_from c (OfNode node) (firing.within firing.some_name firing.some_fires).1 in
-      record {
-        is_node = sync;
-        node_fires = ⊎_elim (λ quiet. absurd (quiet firing.some_name (own firing.some_name firing.some_fires) firing.some_fires)) (λ fired. fired) (firing.each (OfNode node) (here sync));
-        own = own;
-        cells = firing.cells;
-      }
+nodes_are_regions c circuit only = nodes_are_regions_here c only
 
 pub firings_are_nodes : FiringsAreNodes
-firings_are_nodes c node names = (node_from_connected c node (Contains names), connected_from_node c node (Contains names))
+firings_are_nodes c only node fires = (node_from_connected c only node fires, connected_from_node c only node fires)

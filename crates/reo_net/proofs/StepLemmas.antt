@@ -8,11 +8,11 @@ use Rattle.reo_value.specs.declared.value.Value.{Value}
 use Rattle.reo_net.specs.declared.circuit.Channel.{Channel}
 use Rattle.reo_net.specs.declared.circuit.RawCircuit.{RawCircuit}
 use Rattle.reo_net.specs.declared.circuit.Step.{Step}
+use Rattle.reo_net.specs.Kind.{ChannelStep}
 use Rattle.reo_net.specs.Names.{name_count, end_a, end_b, IsOutgoing}
-use Rattle.reo_net.specs.Steps.{State, datum, content, IsStep, ChannelStep, ChannelStays, ChannelMoves, NodeStep}
-use Rattle.reo_net.specs.Parts.{IsAlone, AllGet, IsInput, ChannelAllows}
-use Rattle.reo_net.proofs.FifoLemmas.{content_at}
-use Rattle.reo_net.proofs.RunLemmas.{no_quiet_move}
+use Rattle.reo_net.specs.Steps.{State, Data, datum, content, IsStep, ChannelStays, ChannelMoves, ChannelAllows, NodeStep}
+use Rattle.reo_net.specs.Parts.{IsAlone, AllGet, IsInput}
+use Rattle.reo_net.proofs.KindLemmas.{no_quiet_move}
 
 pub none_from : {X : Type 0} (o : Option X) → is_some o ≡ false → o ≡ None
 none_from None e = refl
@@ -63,59 +63,54 @@ module _ (c : RawCircuit) (step : Step) (pairs : List (ℕ × Value)) (names : �
   pub nonempty_from_step : IsStep c step → length pairs ≡ 0 → ⊥
   nonempty_from_step is_step none = is_step.nonempty (sym are ∙ nil_from_length pairs none)
 
--- one channel, by what it holds and what the step has at its ends
-module _ (c : RawCircuit) (k : ℕ) (channel : Channel) (found : slice_get c.channels k ≡ Some channel) (old : State) (step : Step) (new : State)
+-- one channel, by what it holds and what there is at its ends
+module _ (c : RawCircuit) (texts : List (List ℕ)) (k : ℕ) (channel : Channel) (found : slice_get c.channels k ≡ Some channel) (old : State) (step : Step) (new : State)
     (name : ℕ) (named : name ≡ end_a c k) (a b was is : Option Value) (has_a : a ≡ datum step name) (has_b : b ≡ datum step (name + 1))
-    (held : was ≡ get_or old k None) (holds : is ≡ get_or new k None) where
-  old_content : was ≡ content c k channel.kind old
-  old_content = held ∙ sym (content_at c k channel.kind old (omega (arith, slice_get_within c.channels k channel found)))
-
-  new_content : is ≡ content c k channel.kind new
-  new_content = holds ∙ sym (content_at c k channel.kind new (omega (arith, slice_get_within c.channels k channel found)))
-
+    (held : was ≡ content c k channel.kind old) (holds : is ≡ content c k channel.kind new) where
   at_a : a ≡ datum step (end_a c k)
   at_a = has_a ∙ ap (datum step) named
 
   at_b : b ≡ datum step (end_b c k)
   at_b = has_b ∙ ap (λ n. datum step (n + 1)) named
 
-  at_channel : ChannelStays c k channel.kind old step new ⊎ ChannelMoves c k channel.kind old step new → ChannelAllows c k old step new
-  at_channel allows other found' = subst (λ (ch : Channel). ChannelStays c k ch.kind old step new ⊎ ChannelMoves c k ch.kind old step new) (same_Some channel other (sym found ∙ found')) allows
+  at_channel : ChannelStays c k channel.kind old (datum step) new ⊎ ChannelMoves c texts k channel.kind old (datum step) new → ChannelAllows c texts k old (datum step) new
+  at_channel allows other found' =
+      subst (λ (ch : Channel). ChannelStays c k ch.kind old (datum step) new ⊎ ChannelMoves c texts k ch.kind old (datum step) new) (same_Some channel other (sym found ∙ found')) allows
 
-  pub allows_quiet : a ≡ None → b ≡ None → is ≡ was → ChannelAllows c k old step new
-  allows_quiet no_a no_b same = at_channel (inl (record { no_a = sym at_a ∙ no_a; no_b = sym at_b ∙ no_b; kept = sym new_content ∙ (same ∙ old_content) }))
+  pub allows_quiet : a ≡ None → b ≡ None → is ≡ was → ChannelAllows c texts k old (datum step) new
+  allows_quiet no_a no_b same = at_channel (inl (record { no_a = sym at_a ∙ no_a; no_b = sym at_b ∙ no_b; kept = sym holds ∙ (same ∙ held) }))
 
-  moves : ChannelMoves c k channel.kind old step new → ChannelStep channel.kind was a b is
+  moves : ChannelMoves c texts k channel.kind old (datum step) new → ChannelStep texts channel.kind was a b is
   moves move =
-      subst (λ x. ChannelStep channel.kind x a b is) (sym old_content)
-      (subst (λ x. ChannelStep channel.kind (content c k channel.kind old) x b is) (sym at_a)
-      (subst (λ x. ChannelStep channel.kind (content c k channel.kind old) (datum step (end_a c k)) x is) (sym at_b)
-      (subst (λ x. ChannelStep channel.kind (content c k channel.kind old) (datum step (end_a c k)) (datum step (end_b c k)) x) (sym new_content) move)))
+      subst (λ x. ChannelStep texts channel.kind x a b is) (sym held)
+      (subst (λ x. ChannelStep texts channel.kind (content c k channel.kind old) x b is) (sym at_a)
+      (subst (λ x. ChannelStep texts channel.kind (content c k channel.kind old) (datum step (end_a c k)) x is) (sym at_b)
+      (subst (λ x. ChannelStep texts channel.kind (content c k channel.kind old) (datum step (end_a c k)) (datum step (end_b c k)) x) (sym holds) move)))
 
-  pub quiet_allows : a ≡ None → b ≡ None → ChannelAllows c k old step new → is ≡ was
+  pub quiet_allows : a ≡ None → b ≡ None → ChannelAllows c texts k old (datum step) new → is ≡ was
   quiet_allows no_a no_b allows =
       ⊎_elim
-      (λ stays. new_content ∙ (stays.kept ∙ sym old_content))
-      (λ move. absurd (no_quiet_move channel.kind was is (subst (λ x. ChannelStep channel.kind was None x is) no_b (subst (λ x. ChannelStep channel.kind was x b is) no_a (moves move)))))
+      (λ stays. holds ∙ (stays.kept ∙ sym held))
+      (λ move. absurd (no_quiet_move texts channel.kind was is (subst (λ x. ChannelStep texts channel.kind was None x is) no_b (subst (λ x. ChannelStep texts channel.kind was x b is) no_a (moves move)))))
       (allows channel found)
 
-  pub allows_move : ChannelStep channel.kind was a b is → ChannelAllows c k old step new
+  pub allows_move : ChannelStep texts channel.kind was a b is → ChannelAllows c texts k old (datum step) new
   allows_move move =
       at_channel (inr (
-      subst (λ x. ChannelStep channel.kind (content c k channel.kind old) (datum step (end_a c k)) (datum step (end_b c k)) x) new_content
-      (subst (λ x. ChannelStep channel.kind (content c k channel.kind old) (datum step (end_a c k)) x is) at_b
-      (subst (λ x. ChannelStep channel.kind (content c k channel.kind old) x b is) at_a
-      (subst (λ x. ChannelStep channel.kind x a b is) old_content move)))))
+      subst (λ x. ChannelStep texts channel.kind (content c k channel.kind old) (datum step (end_a c k)) (datum step (end_b c k)) x) holds
+      (subst (λ x. ChannelStep texts channel.kind (content c k channel.kind old) (datum step (end_a c k)) x is) at_b
+      (subst (λ x. ChannelStep texts channel.kind (content c k channel.kind old) x b is) at_a
+      (subst (λ x. ChannelStep texts channel.kind x a b is) held move)))))
 
-  pub move_allows : (a ≡ None → b ≡ None → ⊥) → ChannelAllows c k old step new → ChannelStep channel.kind was a b is
+  pub move_allows : (a ≡ None → b ≡ None → ⊥) → ChannelAllows c texts k old (datum step) new → ChannelStep texts channel.kind was a b is
   move_allows busy allows = ⊎_elim (λ stays. absurd (busy (at_a ∙ stays.no_a) (at_b ∙ stays.no_b))) moves (allows channel found)
 
 -- past the last channel there is none to ask
-pub allows_past : (c : RawCircuit) (k : ℕ) (old : State) (step : Step) (new : State) → length c.channels ≤ k → ChannelAllows c k old step new
-allows_past c k old step new past channel found = absurd (omega (arith, slice_get_within c.channels k channel found))
+pub allows_past : (c : RawCircuit) (texts : List (List ℕ)) (k : ℕ) (old : State) (d : Data) (new : State) → length c.channels ≤ k → ChannelAllows c texts k old d new
+allows_past c texts k old d new past channel found = absurd (omega (arith, slice_get_within c.channels k channel found))
 
 -- one node, by an incoming name that fires and its datum
-module _ (c : RawCircuit) (node : ℕ) (step : Step) where
+module _ (c : RawCircuit) (node : ℕ) (d : Data) where
   IfSome-from : (o : Option Value) (value : Value) → ((d : Value) → o ≡ Some d → d ≡ value) → IfSome o (λ d. d ≡ value)
   IfSome-from None value each = tt
   IfSome-from (Some d) value each = each d refl
@@ -127,36 +122,36 @@ module _ (c : RawCircuit) (node : ℕ) (step : Step) where
   is_some_from : (o : Option Value) (value : Value) → o ≡ Some value → IsSome o
   is_some_from o value e = ap is_some e
 
-  module _ (input : ℕ) (value : Value) (at : IsInput c node step input) (has : datum step input ≡ Some value) where
-    pub node_step_from : (name : ℕ) × IsOutgoing c node name → IsAlone c node step input → AllGet c node step (Some value) → NodeStep c node step
+  module _ (input : ℕ) (value : Value) (at : IsInput c node d input) (has : d input ≡ Some value) where
+    pub node_step_from : (name : ℕ) × IsOutgoing c node name → IsAlone c node d input → AllGet c node d (Some value) → NodeStep c node d
     node_step_from out alone get = record {
       fires = record {
         input = input;
         incoming = at.incoming;
         chosen = at.fires;
         alone = alone;
-        all = λ output outgoing. is_some_from (datum step output) value (get output outgoing);
+        all = λ output outgoing. is_some_from (d output) value (get output outgoing);
         output = out.0;
         outgoing = out.1;
       };
       value = value;
-      same = λ name of_node. IfSome-from (datum step name) value (λ d e.
+      same = λ name of_node. IfSome-from (d name) value (λ v e.
           ⊎_elim
-          (λ incoming. same_Some d value (sym e ∙ (ap (datum step) (alone name incoming (is_some_from (datum step name) d e)) ∙ has)))
-          (λ outgoing. same_Some d value (sym e ∙ get name outgoing)) of_node);
+          (λ incoming. same_Some v value (sym e ∙ (ap d (alone name incoming (is_some_from (d name) v e)) ∙ has)))
+          (λ outgoing. same_Some v value (sym e ∙ get name outgoing)) of_node);
     }
 
-    pub alone_from_step : NodeStep c node step → IsAlone c node step input
+    pub alone_from_step : NodeStep c node d → IsAlone c node d input
     alone_from_step moves name incoming fires = moves.fires.alone name incoming fires ∙ sym (moves.fires.alone input at.incoming at.fires)
 
-    pub get_from_step : NodeStep c node step → AllGet c node step (Some value)
+    pub get_from_step : NodeStep c node d → AllGet c node d (Some value)
     get_from_step moves name outgoing =
-        let got = some_from (datum step name) moves.value (moves.fires.all name outgoing) (moves.same name (inr outgoing)) in
-        let had = some_from (datum step input) moves.value at.fires (moves.same input (inl at.incoming)) in
+        let got = some_from (d name) moves.value (moves.fires.all name outgoing) (moves.same name (inr outgoing)) in
+        let had = some_from (d input) moves.value at.fires (moves.same input (inl at.incoming)) in
         got ∙ (sym had ∙ has)
 
-  pub output_from_step : NodeStep c node step → (name : ℕ) × IsOutgoing c node name
+  pub output_from_step : NodeStep c node d → (name : ℕ) × IsOutgoing c node name
   output_from_step moves = (moves.fires.output, moves.fires.outgoing)
 
-  pub input_from_step : (moves : NodeStep c node step) → IsInput c node step moves.fires.input
+  pub input_from_step : (moves : NodeStep c node d) → IsInput c node d moves.fires.input
   input_from_step moves = record { incoming = moves.fires.incoming; fires = moves.fires.chosen }

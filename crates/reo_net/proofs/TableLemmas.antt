@@ -3,16 +3,40 @@ use Rattle.std.proofs.Common.{◌≡◌, ℕ, ◌+◌, ◌<◌, ◌≤◌, ◌�
 use Rattle.std.proofs.lemmas.Bool.{cases_eq, false≢true}
 use Rattle.std.proofs.lemmas.List.{length-replicate, get_or-replicate}
 use Rattle.std.proofs.lemmas.Option.{same_Some}
-use Rattle.reo_net.specs.Checks.{IsLeast}
+use Rattle.reo_graph.specs.Paths.{IsLeast}
+use Rattle.reo_graph.proofs.LeastLemmas.{IsLeast-same, IsLeast-more}
 use Rattle.reo_net.specs.Tables.{Marks, IsKeyBelow, IsKeyTwiceBelow, IsPassBelow}
+
+-- one more mark
+pub Marks-set : (table : List Bool) (n key : ℕ) (P Q : ℕ → Type 0) → key < n → Marks table n P → ((k : ℕ) → P k → Q k) → Q key → ((k : ℕ) → Q k → P k ⊎ (key ≡ k)) → Marks (set table key true) n Q
+Marks-set table n key P Q fits marks to new from = record {
+  len = length-set table key true ∙ marks.len;
+  each = λ k h. ⊎_elim
+      (λ e. (λ _. subst Q e new, λ _. ap (λ j. get_or (set table key true) j false) (sym e) ∙ get_or-set_same table key true false (omega (arith, marks.len))))
+      (λ ne.
+      let same : get_or (set table key true) k false ≡ get_or table k false = get_or-set_other table key k true false (λ e. ne (sym e)) in
+      (λ on. to k ((marks.each k h).0 (sym same ∙ on)), λ at. same ∙ (marks.each k h).1 (⊎_elim (λ b. b) (λ e. absurd (ne e)) (from k at))))
+      (cases_eq key k);
+}
+
+-- the same marks, where the same is marked
+pub Marks-same : (table : List Bool) (n : ℕ) (P Q : ℕ → Type 0) → Marks table n P → ((k : ℕ) → P k → Q k) → ((k : ℕ) → Q k → P k) → Marks table n Q
+Marks-same table n P Q marks to from = record {
+  len = marks.len;
+  each = λ k h. (λ on. to k ((marks.each k h).0 on), λ at. (marks.each k h).1 (from k at));
+}
+
+-- at first nothing is marked
+pub Marks-nothing : (n : ℕ) (P : ℕ → Type 0) → ((k : ℕ) → P k → ⊥) → Marks (replicate n false) n P
+Marks-nothing n P none = record {
+  len = length-replicate n false;
+  each = λ k h. (λ e. absurd (false≢true (sym (get_or-replicate n k false false h) ∙ e)), λ at. absurd (none k at));
+}
 
 module _ {X : Type 0} (key : X → ℕ) (xs : List X) where
   -- at first nothing is marked
   pub Marks-none : (n : ℕ) → Marks (replicate n false) n (IsKeyBelow key xs 0)
-  Marks-none n = record {
-    len = length-replicate n false;
-    each = λ k h. (λ e. absurd (false≢true (sym (get_or-replicate n k false false h) ∙ e)), λ at. absurd (omega (arith, at.within)));
-  }
+  Marks-none n = Marks-nothing n (IsKeyBelow key xs 0) (λ k at. omega (arith, at.within))
 
   -- an element that is found below, is found below more
   pub IsKeyBelow-more : (i k : ℕ) → IsKeyBelow key xs i k → IsKeyBelow key xs (i + 1) k
@@ -28,15 +52,9 @@ module _ {X : Type 0} (key : X → ℕ) (xs : List X) where
 
   -- a mark at the key of the next element
   pub Marks-more : (table : List Bool) (n i : ℕ) (x : X) → slice_get xs i ≡ Some x → key x < n → Marks table n (IsKeyBelow key xs i) → Marks (set table (key x) true) n (IsKeyBelow key xs (i + 1))
-  Marks-more table n i x here fits marks = record {
-    len = length-set table (key x) true ∙ marks.len;
-    each = λ k h. ⊎_elim
-        (λ e. (λ _. record { place = i; element = x; within = omega arith; found = here; keyed = e }, λ _. ap (λ j. get_or (set table (key x) true) j false) (sym e) ∙ get_or-set_same table (key x) true false (omega (arith, marks.len))))
-        (λ ne.
-        let same : get_or (set table (key x) true) k false ≡ get_or table k false = get_or-set_other table (key x) k true false (λ e. ne (sym e)) in
-        (λ on. IsKeyBelow-more i k ((marks.each k h).0 (sym same ∙ on)), λ at. same ∙ (marks.each k h).1 (⊎_elim (λ b. b) (λ e. absurd (ne e)) (IsKeyBelow-cases i k x here at))))
-        (cases_eq (key x) k);
-  }
+  Marks-more table n i x here fits marks =
+      Marks-set table n (key x) (IsKeyBelow key xs i) (IsKeyBelow key xs (i + 1)) fits marks (IsKeyBelow-more i) (record { place = i; element = x; within = omega arith; found = here; keyed = refl })
+      (λ k at. IsKeyBelow-cases i k x here at)
 
   pub IsKeyTwiceBelow-cases : (i k : ℕ) (x : X) → slice_get xs i ≡ Some x → IsKeyTwiceBelow key xs (i + 1) k → IsKeyTwiceBelow key xs i k ⊎ ((key x ≡ k) × IsKeyBelow key xs i k)
   IsKeyTwiceBelow-cases i k x here at =
@@ -51,22 +69,6 @@ module _ {X : Type 0} (key : X → ℕ) (xs : List X) where
 -- what holds of all elements holds of the one that is read
 pub All_read : {X : Type 0} (P : X → Type 0) (xs : List X) (i : ℕ) (x : X) → All P xs → i < length xs → x ≡ get_or xs i x → P x
 All_read P xs i x all h read = subst P (sym read) (all i x h)
-
--- the least number stays, where no number is new
-pub IsLeast-same : (P Q : ℕ → Type 0) (o : Option ℕ) → ((n : ℕ) → P n → Q n) → ((n : ℕ) → Q n → P n) → IsLeast P o → IsLeast Q o
-IsLeast-same P Q None to from none = λ n q. none n (from n q)
-IsLeast-same P Q (Some n) to from least = (to n least.0, λ m q. least.1 m (from m q))
-
--- the least number, where one number is new
-pub IsLeast-more : (P Q : ℕ → Type 0) (o : Option ℕ) (x r : ℕ) → ((n : ℕ) → P n → Q n) → Q x → ((n : ℕ) → Q n → P n ⊎ (x ≡ n)) → IsLeast P o → IsLeast (λ n. (n ≡ x) ⊎ (o ≡ Some n)) (Some r) → IsLeast Q (Some r)
-IsLeast-more P Q None x r to new from none lesser = (
-  ⊎_elim (λ e. subst Q (sym e) new) (λ e. cc) lesser.0,
-  λ m q. ⊎_elim (λ p. absurd (none m p)) (λ e. lesser.1 m (inl (sym e))) (from m q),
-)
-IsLeast-more P Q (Some n) x r to new from least lesser = (
-  ⊎_elim (λ e. subst Q (sym e) new) (λ e. subst Q (same_Some n r e) (to n least.0)) lesser.0,
-  λ m q. ⊎_elim (λ p. let le : n ≤ m = least.1 m p in let r_le : r ≤ n = lesser.1 n (inr refl) in omega arith) (λ e. lesser.1 m (inl (sym e))) (from m q),
-)
 
 module _ {X : Type 0} (key : X → ℕ) (xs : List X) where
   -- the next element's key is had by one before it
@@ -96,14 +98,20 @@ module _ {X : Type 0} (key : X → ℕ) (test : X → Bool) (xs : List X) where
       (λ ne. inl (record { place = at.place; element = at.element; within = omega (arith, at.within); found = at.found; keyed = at.keyed; passes = at.passes }))
       (cases_eq at.place i)
 
+  -- the next element passes the test, or it does not
+  pub IsPassBelow-hit : (i : ℕ) (x : X) → slice_get xs i ≡ Some x → test x ≡ true → IsPassBelow key test xs (i + 1) (key x)
+  IsPassBelow-hit i x here passes = record { place = i; element = x; within = omega arith; found = here; keyed = refl; passes = passes }
+
+  pub IsPassBelow-miss : (i k : ℕ) (x : X) → slice_get xs i ≡ Some x → test x ≡ false → IsPassBelow key test xs (i + 1) k → IsPassBelow key test xs i k
+  IsPassBelow-miss i k x here fails at = ⊎_elim (λ p. p) (λ e. absurd (false≢true (sym fails ∙ e.1))) (IsPassBelow-cases i k x here at)
+
   pub least_pass-hit : (i : ℕ) (x : X) (o : Option ℕ) (r : ℕ) → slice_get xs i ≡ Some x → test x ≡ true → IsLeast (IsPassBelow key test xs i) o
       → IsLeast (λ n. (n ≡ key x) ⊎ (o ≡ Some n)) (Some r) → IsLeast (IsPassBelow key test xs (i + 1)) (Some r)
   least_pass-hit i x o r here passes least lesser =
       IsLeast-more (IsPassBelow key test xs i) (IsPassBelow key test xs (i + 1)) o (key x) r (IsPassBelow-more i)
-      (record { place = i; element = x; within = omega arith; found = here; keyed = refl; passes = passes })
-      (λ n at. ⊎_elim (λ p. inl p) (λ e. inr e.0) (IsPassBelow-cases i n x here at)) least lesser
+      (IsPassBelow-hit i x here passes) (λ n at. ⊎_elim (λ p. inl p) (λ e. inr e.0) (IsPassBelow-cases i n x here at)) least lesser
 
   pub least_pass-miss : (i : ℕ) (x : X) (o : Option ℕ) → slice_get xs i ≡ Some x → test x ≡ false → IsLeast (IsPassBelow key test xs i) o → IsLeast (IsPassBelow key test xs (i + 1)) o
   least_pass-miss i x o here fails least =
       IsLeast-same (IsPassBelow key test xs i) (IsPassBelow key test xs (i + 1)) o (IsPassBelow-more i)
-      (λ n at. ⊎_elim (λ p. p) (λ e. absurd (false≢true (sym fails ∙ e.1))) (IsPassBelow-cases i n x here at)) least
+      (λ n at. IsPassBelow-miss i n x here fails at) least

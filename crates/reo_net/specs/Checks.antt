@@ -1,18 +1,20 @@
 -- What is asked of a circuit, and why one is refused.
-use Rattle.std.specs.Prelude.{◌≢◌, ℕ, ◌<◌, ◌≤◌, ◌⊎◌, ◌^◌, length, All, Option, Some, None}
+use Rattle.std.specs.Prelude.{◌≢◌, ℕ, ◌<◌, ◌≤◌, ◌⊎◌, ◌^◌, length, All, IsTrue}
 use Rattle.reo_value.specs.declared.op.Way.{Way}
 use Rattle.reo_value.specs.declared.op.Way.TheVariants.{Put, Get}
-use Rattle.reo_value.specs.declared.value.Value.TheVariants.{Int, Sym}
-use Rattle.reo_net.specs.declared.circuit.Kind.{Kind}
-use Rattle.reo_net.specs.declared.circuit.Kind.TheVariants.{Fifo}
+use Rattle.reo_net.specs.declared.kind.Kind.{Kind}
 use Rattle.reo_net.specs.declared.circuit.RawCircuit.{RawCircuit}
-use Rattle.reo_net.specs.Names.{Incoming, Outgoing, IsPortAt, IsEndA, IsEndB}
+use Rattle.reo_net.specs.Kind.{Incoming, Outgoing, is_fifo, texts_of_kind}
+use Rattle.reo_net.specs.Names.{IsPortAt, IsEndA, IsEndB}
+use Rattle.reo_net.specs.Loops.{IsOnLoop}
 
--- a text of the kind's has a number below this
+-- each text that the kind names has a number below this
 abbrev pub HasTextsBelow : ℕ → Kind → Type 0
-HasTextsBelow texts (Fifo (Some (Sym text))) = text < texts
-HasTextsBelow texts (Fifo (Some (Int number))) = Unit {0}
-HasTextsBelow texts (Fifo None) = Unit {0}
+HasTextsBelow texts kind = All (λ text. text < texts) (texts_of_kind kind)
+
+-- all channels are FIFO1s
+abbrev pub IsFifoOnly : RawCircuit → Type 0
+IsFifoOnly c = All (λ channel. IsTrue (is_fifo channel.kind)) c.channels
 
 -- the numbers in a circuit name nodes and texts that there are
 pub record HasKnownNumbers (c : RawCircuit) : Type 0 where
@@ -62,8 +64,4 @@ pub record IsChecked (c : RawCircuit) : Type 0 where
   pub few_ports : length c.ports ≤ 128
   pub one_port : (node : ℕ) → HasTwoPorts c node → ⊥
   pub unmixed : (node : ℕ) → IsMixed c node → ⊥
-
--- the least number of which P holds, if there is any
-abbrev pub IsLeast : (ℕ → Type 0) → Option ℕ → Type 0
-IsLeast P None = (n : ℕ) → P n → ⊥
-IsLeast P (Some n) = P n × ((m : ℕ) → P m → n ≤ m)
+  pub acyclic : (node : ℕ) → IsOnLoop c node → ⊥

@@ -1,18 +1,20 @@
 -- Laws of the definitions, each the contract of a function that does nothing.
-use Rattle.std.specs.Prelude.{◌≡◌, ℕ, ◌<◌, ◌↔◌, List, map, slice_get, Contains, Some, true}
+use Rattle.std.specs.Prelude.{◌≡◌, ℕ, ◌<◌, ◌↔◌, List, map, slice_get, Some, Bool, true, IsTrue}
 use Rattle.std.specs.List.{range_with_len}
 use Rattle.reo_net.specs.declared.circuit.Channel.{Channel}
 use Rattle.reo_net.specs.declared.circuit.RawCircuit.{RawCircuit}
 use Rattle.reo_net.specs.declared.circuit.Step.{Step}
-use Rattle.reo_net.specs.Names.{name_count, end_a, end_b, IsNameOf, IsIncoming, IsOutgoing}
-use Rattle.reo_net.specs.Steps.{State, is_fifo, NodeFires}
+use Rattle.reo_net.specs.Names.{name_count, IsNameOf, IsIncoming, IsOutgoing}
+use Rattle.reo_net.specs.Steps.{State, NodeFires}
 use Rattle.reo_net.specs.Runs.{Run}
-use Rattle.reo_net.specs.Regions.{Automaton, OfNode, SameRegion, AreRegions, IsConnectedFiring}
-use Rattle.reo_net.specs.Checks.{IsCircuit}
+use Rattle.reo_net.specs.Regions.{Automaton, OfNode, SameRegion, AreRegions, FiresNoCellTwice, IsConnectedFiring}
+use Rattle.reo_net.specs.Kind.{hands_on}
+use Rattle.reo_net.specs.Loops.{node_rank}
+use Rattle.reo_net.specs.Checks.{IsCircuit, IsChecked, IsFifoOnly}
 
 -- a run's steps determine the state that it ends in
 abbrev pub RunsEndOnce : Type 0
-RunsEndOnce = (c : RawCircuit) (from : State) (steps : List Step) (x y : State) → Run c from steps x → Run c from steps y → x ≡ y
+RunsEndOnce = (c : RawCircuit) (texts : List (List ℕ)) (from : State) (steps : List Step) (x y : State) → Run c texts from steps x → Run c texts from steps y → x ≡ y
 
 -- no name is of two nodes
 abbrev pub NamesHaveOneNode : Type 0
@@ -26,21 +28,31 @@ NamesHaveOneDirection = (c : RawCircuit) (m n name : ℕ) → IsIncoming c m nam
 abbrev pub NodesHaveTheNames : Type 0
 NodesHaveTheNames = (c : RawCircuit) → IsCircuit c → (name : ℕ) → (name < name_count c) ↔ ((node : ℕ) × (node < c.nodes) × IsNameOf c node name)
 
+-- in an accepted circuit each channel that hands data on at once leads from a node of lower rank to one of a higher
+abbrev pub RanksRiseAlongChannels : Type 0
+RanksRiseAlongChannels = (c : RawCircuit) → IsChecked c → (k : ℕ) (channel : Channel) → slice_get c.channels k ≡ Some channel
+    → hands_on channel.kind ≡ true → node_rank c channel.a < node_rank c channel.b
+
+-- two lists of all the regions of a circuit are one list: so the number of regions is one number
+abbrev pub RegionsAreOneList : Type 0
+RegionsAreOneList = (c : RawCircuit) (xs ys : List Automaton) → AreRegions c xs → AreRegions c ys → xs ≡ ys
+
 -- a set of names that a node fires: they are all its own, and no FIFO1 has both ends among them
-pub record IsNodeFiring (c : RawCircuit) (node : ℕ) (fires : ℕ → Type 0) : Type 0 where
+pub record IsNodeFiring (c : RawCircuit) (node : ℕ) (fires : ℕ → Bool) : Type 0 where
   pub is_node : node < c.nodes
   pub node_fires : NodeFires c node fires
-  pub own : (name : ℕ) → fires name → IsNameOf c node name
-  pub cells : (k : ℕ) (channel : Channel) → slice_get c.channels k ≡ Some channel → is_fifo channel.kind ≡ true → fires (end_a c k) → fires (end_b c k) → ⊥
+  pub own : (name : ℕ) → IsTrue (fires name) → IsNameOf c node name
+  pub cells : FiresNoCellTwice c fires
 
 -- the regions of a circuit of FIFO1s are its nodes, in order
 abbrev pub NodesAreRegions : Type 0
-NodesAreRegions = (c : RawCircuit) → IsCircuit c → AreRegions c (map OfNode (range_with_len 0 c.nodes))
+NodesAreRegions = (c : RawCircuit) → IsCircuit c → IsFifoOnly c → AreRegions c (map OfNode (range_with_len 0 c.nodes))
 
--- the region of a node has no other automaton
+-- there the region of a node has no other automaton
 abbrev pub RegionsAreSingle : Type 0
-RegionsAreSingle = (c : RawCircuit) (node : ℕ) (x : Automaton) → SameRegion c (OfNode node) x → x ≡ OfNode node
+RegionsAreSingle = (c : RawCircuit) → IsFifoOnly c → (node : ℕ) (x : Automaton) → SameRegion c (OfNode node) x → x ≡ OfNode node
 
--- the connected firings of a node's region are those of the node
+-- there the connected firings of a node's region are those of the node
 abbrev pub FiringsAreNodes : Type 0
-FiringsAreNodes = (c : RawCircuit) (node : ℕ) (names : List ℕ) → IsConnectedFiring c (OfNode node) (Contains names) ↔ IsNodeFiring c node (Contains names)
+FiringsAreNodes =
+    (c : RawCircuit) → IsFifoOnly c → (node : ℕ) (fires : ℕ → Bool) → IsConnectedFiring c (OfNode node) fires ↔ IsNodeFiring c node fires

@@ -1,10 +1,13 @@
+pub mod Kind
 pub mod Names
+pub mod Stand
 pub mod Steps
+pub mod Parts
 pub mod Runs
 pub mod Regions
+pub mod Loops
 pub mod Tables
 pub mod Checks
 pub mod Refusals
-pub mod Laws
-pub mod Parts
 pub mod Scripts
+pub mod Laws

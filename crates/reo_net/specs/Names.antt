@@ -2,10 +2,9 @@
 use Rattle.std.specs.Prelude.{◌≡◌, ℕ, ◌+◌, ◌*◌, ◌⊎◌, length, slice_get, Some}
 use Rattle.reo_value.specs.declared.op.Way.{Way}
 use Rattle.reo_value.specs.declared.op.Way.TheVariants.{Put, Get}
-use Rattle.reo_net.specs.declared.circuit.Kind.{Kind}
-use Rattle.reo_net.specs.declared.circuit.Kind.TheVariants.{Fifo}
 use Rattle.reo_net.specs.declared.circuit.Channel.{Channel}
 use Rattle.reo_net.specs.declared.circuit.RawCircuit.{RawCircuit}
+use Rattle.reo_net.specs.Kind.{Direction, Incoming, Outgoing, direction_of_b}
 
 -- the name of port p
 abbrev pub port_name : ℕ → ℕ
@@ -22,15 +21,6 @@ end_b c k = length c.ports + 2 * k + 1
 -- how many names there are
 abbrev pub name_count : RawCircuit → ℕ
 name_count c = length c.ports + 2 * length c.channels
-
--- which way data go at a name, seen from its node
-pub data Direction : Type 0 where
-  Incoming : Direction
-  Outgoing : Direction
-
--- what end b of a channel is for its node: data come out of the channel there
-abbrev pub direction_of_b : Kind → Direction
-direction_of_b (Fifo first) = Incoming
 
 -- the name is that of a port at the node, where components put or get
 pub record IsPortAt (c : RawCircuit) (way : Way) (node name : ℕ) : Type 0 where

@@ -1,12 +1,11 @@
 -- The synchronous regions of a circuit, and the sets of names that fire at once in a region.
-use Rattle.std.specs.Prelude.{◌≡◌, ℕ, ◌+◌, ◌<◌, ◌≤◌, ◌⊎◌, List, length, slice_get, map, All, Contains, Some, true, false}
+use Rattle.std.specs.Prelude.{◌≡◌, ℕ, ◌+◌, ◌<◌, ◌≤◌, ◌⊎◌, List, length, slice_get, map, All, Contains, Some, Bool, true, false, IsTrue}
 use Rattle.std.specs.List.Sorted.{IsStrictlyIncreasing}
-use Rattle.reo_net.specs.declared.circuit.Kind.{Kind}
-use Rattle.reo_net.specs.declared.circuit.Kind.TheVariants.{Fifo}
 use Rattle.reo_net.specs.declared.circuit.Channel.{Channel}
 use Rattle.reo_net.specs.declared.circuit.RawCircuit.{RawCircuit}
 use Rattle.reo_net.specs.Names.{end_a, end_b, IsNameOf}
-use Rattle.reo_net.specs.Steps.{is_fifo, NodeFires}
+use Rattle.reo_net.specs.Kind.{is_fifo, fires_ends}
+use Rattle.reo_net.specs.Steps.{NodeFires}
 
 -- the automata of a circuit
 pub data Automaton : Type 0 where
@@ -44,35 +43,44 @@ pub record AreRegions (c : RawCircuit) (roots : List Automaton) : Type 0 where
   pub rising : IsStrictlyIncreasing (map (automaton_number c) roots)
   pub every : (root : Automaton) → IsRegion c root → Contains roots root
 
--- the names that a channel's transitions fire together: which of its ends a and b
-abbrev pub ChannelFires : Kind → Type 0 → Type 0 → Type 0
-ChannelFires (Fifo first) a b = (a × (b → ⊥)) ⊎ (b × (a → ⊥))
-
 -- the names of the set that the automaton has are those of one of its transitions
-abbrev pub AutomatonFires : RawCircuit → Automaton → (ℕ → Type 0) → Type 0
+abbrev pub AutomatonFires : RawCircuit → Automaton → (ℕ → Bool) → Type 0
 AutomatonFires c (OfChannel k) fires =
-    (channel : Channel) × (slice_get c.channels k ≡ Some channel) × ChannelFires channel.kind (fires (end_a c k)) (fires (end_b c k))
+    (channel : Channel) × (slice_get c.channels k ≡ Some channel) × IsTrue (fires_ends channel.kind (fires (end_a c k)) (fires (end_b c k)))
 AutomatonFires c (OfNode node) fires = NodeFires c node fires
 
 -- no name of the automaton is in the set
-abbrev pub IsQuiet : RawCircuit → Automaton → (ℕ → Type 0) → Type 0
-IsQuiet c x fires = (name : ℕ) → HasName c x name → fires name → ⊥
+abbrev pub IsQuiet : RawCircuit → Automaton → (ℕ → Bool) → Type 0
+IsQuiet c x fires = (name : ℕ) → HasName c x name → fires name ≡ false
 
 -- a path of automata of the region that share names in the set
-pub data HangsTogether (c : RawCircuit) (root : Automaton) (fires : ℕ → Type 0) (from : Automaton) : Automaton → Type 0 where
+pub data HangsTogether (c : RawCircuit) (root : Automaton) (fires : ℕ → Bool) (from : Automaton) : Automaton → Type 0 where
   here : HangsTogether c root fires from from
-  linked : {x y : Automaton} (name : ℕ) → HangsTogether c root fires from x → SameRegion c root y → HasName c x name → HasName c y name → fires name → HangsTogether c root fires from y
+  linked : {x y : Automaton} (name : ℕ) → HangsTogether c root fires from x → SameRegion c root y → HasName c x name → HasName c y name
+      → IsTrue (fires name) → HangsTogether c root fires from y
+
+-- no FIFO1 has both its ends in the set
+abbrev pub FiresNoCellTwice : RawCircuit → (ℕ → Bool) → Type 0
+FiresNoCellTwice c fires = (k : ℕ) (channel : Channel) → slice_get c.channels k ≡ Some channel → is_fifo channel.kind ≡ true
+    → IsTrue (fires (end_a c k)) → IsTrue (fires (end_b c k)) → ⊥
+
+-- an automaton of the region moves: a name of it is in the set
+pub record Moves (c : RawCircuit) (root : Automaton) (fires : ℕ → Bool) (x : Automaton) : Type 0 where
+  pub of_region : SameRegion c root x
+  pub name : ℕ
+  pub has : HasName c x name
+  pub fired : IsTrue (fires name)
 
 -- A set of names that fires at once in the region of root.
-pub record IsConnectedFiring (c : RawCircuit) (root : Automaton) (fires : ℕ → Type 0) : Type 0 where
+pub record IsConnectedFiring (c : RawCircuit) (root : Automaton) (fires : ℕ → Bool) : Type 0 where
   -- it is not empty
   pub some_name : ℕ
-  pub some_fires : fires some_name
+  pub some_fires : IsTrue (fires some_name)
   -- its names are the region's
-  pub within : (name : ℕ) → fires name → (x : Automaton) × SameRegion c root x × HasName c x name
+  pub within : (name : ℕ) → IsTrue (fires name) → (x : Automaton) × SameRegion c root x × HasName c x name
   -- each automaton of the region has none of them, or those of one of its transitions
   pub each : (x : Automaton) → SameRegion c root x → IsQuiet c x fires ⊎ AutomatonFires c x fires
   -- no FIFO1 fires both ends
-  pub cells : (k : ℕ) (channel : Channel) → slice_get c.channels k ≡ Some channel → is_fifo channel.kind ≡ true → fires (end_a c k) → fires (end_b c k) → ⊥
+  pub cells : FiresNoCellTwice c fires
   -- the automata that move hang together
-  pub together : (x y : Automaton) (at_x at_y : ℕ) → SameRegion c root x → SameRegion c root y → HasName c x at_x → fires at_x → HasName c y at_y → fires at_y → HangsTogether c root fires x y
+  pub together : (x y : Automaton) → Moves c root fires x → Moves c root fires y → HangsTogether c root fires x y

@@ -2,41 +2,43 @@
 use Rattle.std.specs.Prelude.{◌≡◌, ℕ, List, [], ◌∷◌, slice_get, Contains, Some, flat_map}
 use Rattle.reo_value.specs.declared.value.Value.{Value}
 use Rattle.reo_value.specs.declared.op.Op.{Op}
-use Rattle.reo_value.specs.declared.op.Op.TheVariants as op
-use Rattle.reo_value.specs.declared.op.Way.{Way}
-use Rattle.reo_value.specs.declared.op.Way.TheVariants.{Put, Get}
-use Rattle.reo_net.specs.declared.circuit.Kind.{Kind}
-use Rattle.reo_net.specs.declared.circuit.Kind.TheVariants.{Fifo}
+use Rattle.reo_value.specs.declared.op.Op.TheVariants.{Put, Get}
+use Rattle.reo_value.specs.Op.{way_of}
 use Rattle.reo_net.specs.declared.circuit.Port.{Port}
 use Rattle.reo_net.specs.declared.circuit.RawCircuit.{RawCircuit}
 use Rattle.reo_net.specs.declared.circuit.Step.{Step}
-use Rattle.reo_net.specs.Steps.{State, ProductStep, datum}
+use Rattle.reo_net.specs.Kind.{first_content}
+use Rattle.reo_net.specs.Steps.{State, Data, ProductStep, datum}
 
--- what a channel has in the initial state: a FIFO1 its first datum, or none
-abbrev pub first_content : Kind → State
-first_content (Fifo first) = first ∷ []
-
+-- each FIFO1 has its first datum, or none
 abbrev pub initial_state : RawCircuit → State
 initial_state c = flat_map (λ channel. first_content channel.kind) c.channels
 
 -- the steps lead from the one state to the other, each of them a step of the product
-abbrev pub Run : RawCircuit → State → List Step → State → Type 0
-Run c from [] final = final ≡ from
-Run c from (step ∷ steps) final = (next : State) × ProductStep c from step next × Run c next steps final
+abbrev pub Run : RawCircuit → List (List ℕ) → State → List Step → State → Type 0
+Run c texts from [] final = final ≡ from
+Run c texts from (step ∷ steps) final = (next : State) × ProductStep c texts from step next × Run c texts next steps final
 
--- the operation that an exchange of this datum at port p answers: a get takes any value
-abbrev pub op_at : Way → ℕ → Value → Op
-op_at Put p value = op.Put p value
-op_at Get p value = op.Get p
+-- an exchange of this value at port p answers the operation: that of a put is its own, a get takes any
+abbrev pub Answers : Op → ℕ → Value → Type 0
+Answers (Put q own) p value = (q ≡ p) × (own ≡ value)
+Answers (Get q) p value = q ≡ p
 
--- each port in the step has an offer, and a put port's is of the step's datum
-abbrev pub UsesOffers : RawCircuit → List Op → Step → Type 0
-UsesOffers c offers step =
-    (p : ℕ) (port : Port) (value : Value) → slice_get c.ports p ≡ Some port → datum step p ≡ Some value → Contains offers (op_at port.way p value)
+-- one of the operations is of the port's way, and an exchange of this value at port p answers it
+pub record IsOffered (offers : List Op) (p : ℕ) (port : Port) (value : Value) : Type 0 where
+  pub operation : Op
+  pub offered : Contains offers operation
+  pub way : way_of operation ≡ port.way
+  pub answers : Answers operation p value
+
+-- each port that fires has an offer, which the datum there answers
+abbrev pub UsesOffers : RawCircuit → List Op → Data → Type 0
+UsesOffers c offers d =
+    (p : ℕ) (port : Port) (value : Value) → slice_get c.ports p ≡ Some port → d p ≡ Some value → IsOffered offers p port value
 
 -- a step of the product is possible here, by ports that all have offers, with the data that are offered at put ports
-pub record IsEnabled (c : RawCircuit) (state : State) (offers : List Op) : Type 0 where
+pub record IsEnabled (c : RawCircuit) (texts : List (List ℕ)) (state : State) (offers : List Op) : Type 0 where
   pub step : Step
   pub new : State
-  pub possible : ProductStep c state step new
-  pub offered : UsesOffers c offers step
+  pub possible : ProductStep c texts state step new
+  pub offered : UsesOffers c offers (datum step)

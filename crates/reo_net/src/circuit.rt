@@ -1,19 +1,29 @@
+ghost use Rattle.std.specs.Prelude.{◌≡◌, IfOk};
+
+use crate::kind::Kind;
 use reo_value::{Value, Way};
 use sqlite_items::Items;
-
-/// The kinds of channel.
-#[derive(Clone, Copy, Debug, PartialEq, Eq)]
-pub enum Kind {
-    /// A buffer of one place, with what it holds at first.
-    Fifo(Option<Value>),
-}
+use std::alloc::{AllocError, Global};
 
 /// A channel from node `a` to node `b`.
-#[derive(Clone, Copy, Debug, PartialEq, Eq)]
+#[derive(Drop)]
 pub struct Channel {
     pub kind: Kind,
     pub a: u32,
     pub b: u32,
+}
+
+impl Channel {
+    /// A copy of the channel.
+    pub fn try_clone(&self, alloc: Global) -> Result<Channel, AllocError>
+        ensures { IfOk result (λ copy. copy ≡ self.now) }
+    {
+        Ok(Channel {
+            kind: self.kind.try_clone(alloc)?,
+            a: self.a,
+            b: self.b,
+        })
+    }
 }
 
 /// An open end of a node: there a component puts, or gets.
@@ -24,7 +34,7 @@ pub struct Port {
 }
 
 /// A circuit as it was read: numbers of nodes and texts, channels and ports in the order of their lines.
-#[derive(Debug, Drop)]
+#[derive(Drop)]
 pub struct RawCircuit {
     pub nodes: u32,
     pub texts: u32,

@@ -1,5 +1,5 @@
 //! Laws about the definitions, each a function that does nothing.
-ghost use Rattle.reo_net.specs.Laws.{RunsEndOnce, NamesHaveOneNode, NamesHaveOneDirection, NodesHaveTheNames, NodesAreRegions, RegionsAreSingle, FiringsAreNodes};
+ghost use Rattle.reo_net.specs.Laws.{RunsEndOnce, NamesHaveOneNode, NamesHaveOneDirection, NodesHaveTheNames, RanksRiseAlongChannels, RegionsAreOneList, NodesAreRegions, RegionsAreSingle, FiringsAreNodes};
 
 /// The steps of a run determine the state that it ends in.
 pub fn run_determines_its_final_state()
@@ -11,6 +11,16 @@ pub fn names_have_one_node()
     ensures one { NamesHaveOneNode }
     ensures one_way { NamesHaveOneDirection }
     ensures all { NodesHaveTheNames }
+{}
+
+/// In an accepted circuit the nodes have ranks, and data go at once from lower to higher ones alone.
+pub fn ranks_rise_along_channels()
+    ensures { RanksRiseAlongChannels }
+{}
+
+/// Two lists of all the regions of a circuit are one list.
+pub fn regions_are_one_list()
+    ensures { RegionsAreOneList }
 {}
 
 /// While each channel is a FIFO1, each node is a region of its own, and what it fires are the region's firings.

@@ -2,11 +2,14 @@
 #![tactic(auto)]
 
 mod circuit;
-mod laws;
+mod kind;
+pub mod laws;
 mod net;
+mod stand;
 mod steps;
 
-pub use circuit::{Channel, Kind, Port, RawCircuit, Step};
-pub use laws::{fifo_regions_are_nodes, names_have_one_node, run_determines_its_final_state};
+pub use circuit::{Channel, Port, RawCircuit, Step};
+pub use kind::Kind;
 pub use net::{CheckRefusal, Net, check};
+pub use stand::{Stand, stand_of};
 pub use steps::{channel_allows, datum_at, is_product_step, is_step, node_allows};

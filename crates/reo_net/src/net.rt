@@ -1,12 +1,15 @@
 //! The checks on a circuit, and a circuit that passed them.
-ghost use Rattle.std.specs.Prelude.{◌≡◌, ◌+◌, ◌*◌, ◌<◌, ◌⊎◌, length, All, None, Some, IfOk, IfErr, OnOk};
+ghost use Rattle.std.specs.Prelude.{◌≡◌, ◌+◌, ◌*◌, ◌<◌, ◌⊎◌, length, filter_map, All, None, Some, IfOk, IfErr, OnOk};
 ghost use Rattle.reo_value.specs.declared.op.Way.TheVariants.{Put, Get};
 ghost use Rattle.reo_net.specs.Names.{name_count};
-ghost use Rattle.reo_net.specs.Tables.{Marks, IsKeyBelow, IsKeyTwiceBelow, IsPassBelow, is_marked};
-ghost use Rattle.reo_net.specs.Checks.{IsCircuit, HasTwoPorts, IsMixed, IsChecked, IsLeast};
+ghost use Rattle.reo_net.specs.Tables.{Marks, handing_edge, IsKeyTwiceBelow, IsPassBelow, IsSourceBelow, comes_out, is_marked};
+ghost use Rattle.reo_graph.specs.Paths.{IsLeast};
+ghost use Rattle.reo_net.specs.Checks.{IsCircuit, HasTwoPorts, IsMixed, IsChecked};
+ghost use Rattle.reo_net.specs.Loops.{IsOnLoop};
 ghost use Rattle.reo_net.specs.Refusals.{Refuses};
 
 use crate::circuit::{Channel, Port, RawCircuit};
+use reo_graph::least_on_loop;
 use reo_value::Way;
 use sqlite_items::Items;
 use std::alloc::{AllocError, Global};
@@ -26,8 +29,12 @@ pub struct Net {
 impl Model for Net {
     ghost use Rattle.reo_net.specs.declared.circuit.RawCircuit.{RawCircuit as Circuit};
     ghost use Rattle.reo_net.specs.Checks.{IsChecked};
+    ghost use Rattle.reo_guard.specs.contracts.guard.Guard as guard;
+    ghost use Rattle.std.specs.Coded.{codes};
 
     ghost Value = { Circuit };
+
+    ghost coded = { Prim.hlevel (codes, guard.the_row.coded) };
 
     ghost view = { λ n. n.circuit };
 
@@ -45,6 +52,8 @@ pub enum CheckRefusal {
     PortTwice(u32),
     #[error("node {0}: mixed node as port")]
     MixedPort(u32),
+    #[error("node {0}: synchronous loop")]
+    SyncLoop(u32),
     #[error("out of memory")]
     NoMemory,
 }
@@ -70,26 +79,32 @@ fn lesser(least: Option<u32>, node: u32) -> u32
     }
 }
 
-// A table of the nodes at end b of a channel, where data come out of it.
+// A table of the nodes where data come out of a channel, at its end b.
 fn sink_table(alloc: Global, nodes: u32, channels: &[Channel]) -> Result<Vec<bool>, AllocError>
     requires { All (λ channel. channel.b < nodes) channels.now }
-    ensures { IfOk result (λ table. Marks table.items nodes (IsKeyBelow (λ channel. channel.b) channels.now (length channels.now))) }
+    ensures { IfOk result (λ table. Marks table.items nodes (IsPassBelow (λ channel. channel.b) comes_out channels.now (length channels.now))) }
 {
     let mut table = vec![in alloc; false; nodes as usize]?;
     for channel in channels {
-        table[channel.b as usize] = true;
+        if channel.kind.comes_out_at_b() {
+            table[channel.b as usize] = true;
+        }
     }
     Ok(table)
 }
 
-// A table of the nodes at end a of a channel, where data go into it.
+// A table of the nodes where data go into a channel: at its end a, or at end b of a drain.
 fn source_table(alloc: Global, nodes: u32, channels: &[Channel]) -> Result<Vec<bool>, AllocError>
-    requires { All (λ channel. channel.a < nodes) channels.now }
-    ensures { IfOk result (λ table. Marks table.items nodes (IsKeyBelow (λ channel. channel.a) channels.now (length channels.now))) }
+    requires ends_a { All (λ channel. channel.a < nodes) channels.now }
+    requires ends_b { All (λ channel. channel.b < nodes) channels.now }
+    ensures { IfOk result (λ table. Marks table.items nodes (IsSourceBelow channels.now (length channels.now))) }
 {
     let mut table = vec![in alloc; false; nodes as usize]?;
     for channel in channels {
         table[channel.a as usize] = true;
+        if !channel.kind.comes_out_at_b() {
+            table[channel.b as usize] = true;
+        }
     }
     Ok(table)
 }
@@ -149,13 +164,55 @@ fn mixed_node(alloc: Global, raw: &RawCircuit) -> Result<Option<u32>, AllocError
     Ok(least)
 }
 
+// The nodes from which and to which the channel hands data on at once, where it does.
+fn handing_edge(channel: &Channel) -> Option<(u32, u32)>
+    ensures { result ≡ handing_edge channel.now }
+{
+    if channel.kind.hands_on() {
+        Some((channel.a, channel.b))
+    } else {
+        None
+    }
+}
+
+fn handing_edges(alloc: Global, channels: &[Channel]) -> Result<Vec<(u32, u32)>, AllocError>
+    ensures { IfOk result (λ edges. edges.items ≡ filter_map handing_edge channels.now) }
+{
+    let mut edges = Vec::new(alloc);
+    for channel in channels {
+        if let Some(edge) = handing_edge(channel) {
+            edges.push(edge)?;
+        }
+    }
+    Ok(edges)
+}
+
+// The least node on a synchronous loop.
+fn node_on_loop(alloc: Global, raw: &RawCircuit) -> Result<Option<u32>, AllocError>
+    ensures { IfOk result (IsLeast (IsOnLoop raw.now)) }
+{
+    let edges = handing_edges(alloc, raw.channels.as_slice())?;
+    let least = least_on_loop(alloc, &edges)?;
+    Ok(least)
+}
+
+fn copy_channels(alloc: Global, channels: &[Channel]) -> Result<Items<Channel>, AllocError>
+    ensures { IfOk result (λ copy. copy ≡ channels.now) }
+{
+    let mut copy = Items::new(alloc);
+    for channel in channels {
+        copy.push(channel.try_clone(alloc)?)?;
+    }
+    Ok(copy)
+}
+
 fn copied(alloc: Global, raw: &RawCircuit) -> Result<RawCircuit, AllocError>
     ensures { IfOk result (λ copy. copy ≡ raw.now) }
 {
     Ok(RawCircuit {
         nodes: raw.nodes,
         texts: raw.texts,
-        channels: Items::from_slice(alloc, raw.channels.as_slice())?,
+        channels: copy_channels(alloc, raw.channels.as_slice())?,
         ports: Items::from_slice(alloc, raw.ports.as_slice())?,
     })
 }
@@ -178,6 +235,9 @@ pub fn check(alloc: Global, raw: &RawCircuit) -> Result<Net, CheckRefusal>
     }
     if let Some(node) = mixed_node(alloc, raw)? {
         return Err(CheckRefusal::MixedPort(node));
+    }
+    if let Some(node) = node_on_loop(alloc, raw)? {
+        return Err(CheckRefusal::SyncLoop(node));
     }
     let circuit = copied(alloc, raw)?;
     Ok(Net { circuit })

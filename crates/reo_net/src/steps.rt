@@ -1,20 +1,17 @@
 //! Whether a step is one of the product, by its definition alone: slow, and without a table.
-ghost use Rattle.std.specs.Prelude.{◌≡◌, ℕ, ◌+◌, ◌*◌, ◌<◌, ◌↔◌, length, map, All, Some, slice_index_or, nat_eq, IsTrue, MatchBool, MatchOption};
+ghost use Rattle.std.specs.Prelude.{◌≡◌, ℕ, ◌+◌, ◌*◌, ◌<◌, ◌↔◌, length, map, All, Some, slice_index_or, count_by, nat_eq, IsTrue, MatchOption};
 ghost use Rattle.std.specs.List.Sorted.{IsStrictlyIncreasing};
 ghost use Rattle.std.specs.Map.{lookup};
-ghost use Rattle.reo_net.specs.Names.{name_count, IsIncoming, IsOutgoing};
-ghost use Rattle.reo_net.specs.Steps.{datum, IsStep, ChannelStep, NodeStays, NodeStep, ProductStep};
-ghost use Rattle.reo_net.specs.Parts.{IsAlone, AllGet, IsInput, ChannelAllows, NodeAllows};
+ghost use Rattle.reo_net.specs.Names.{IsIncoming, IsOutgoing, IsNameOf};
+ghost use Rattle.reo_net.specs.Kind.{is_fifo};
+ghost use Rattle.reo_net.specs.Steps.{datum, content, IsStep, NodeStays, NodeStep, ChannelAllows, NodeAllows, ProductStep};
+ghost use Rattle.reo_net.specs.Parts.{IsAlone, AllGet, IsInput};
 
-use crate::circuit::{Kind, Step};
+use crate::circuit::{Channel, Step};
+use crate::kind::same;
 use crate::net::Net;
-use reo_value::{Value, Way};
-
-fn same(x: Option<Value>, y: Option<Value>) -> bool
-    ensures { IsTrue result ↔ (x ≡ y) }
-{
-    x == y
-}
+use crate::stand::{Stand, stand_of};
+use reo_value::{Lexicon, Value};
 
 fn datum_among(pairs: &[(u32, Value)], name: u32) -> Option<Value>
     ensures { result ≡ lookup (nat_eq name) pairs.now }
@@ -73,102 +70,108 @@ fn held_at(state: &[Option<Value>], place: usize) -> Option<Value>
     }
 }
 
-// Whether a channel of this kind, which holds `held`, may have `a` and `b` at its ends and hold `new` then.
-fn is_channel_step(
-    kind: Kind,
-    held: Option<Value>,
-    a: Option<Value>,
-    b: Option<Value>,
-    new: Option<Value>,
-) -> bool
-    ensures { IsTrue result ↔ ChannelStep kind held a b new }
+// How many of these channels are FIFO1s.
+fn fifos_in(channels: &[Channel]) -> usize
+    ensures { result ≡ count_by (λ channel. is_fifo channel.kind) channels.now }
 {
-    match kind {
-        Kind::Fifo(_) => match (held, a, b) {
-            (None, Some(_), None) => same(new, a),
-            (Some(_), None, Some(_)) => same(b, held) && new.is_none(),
-            _ => false,
-        },
+    channels
+        .iter()
+        .filter(|channel| channel.kind.is_fifo())
+        .count()
+}
+
+// What channel `number`, which is this one, holds in a state.
+fn content(net: &Net, number: usize, channel: &Channel, state: &[Option<Value>]) -> Option<Value>
+    requires { number < length net.now.channels }
+    ensures { result ≡ content net.now number channel.now.kind state.now }
+{
+    if channel.kind.is_fifo() {
+        held_at(state, fifos_in(&net.channels()[..number]))
+    } else {
+        None
     }
 }
 
 /// Whether channel `number` has no name in the step and stays, or makes what the step has at its names.
 pub fn channel_allows(
     net: &Net,
+    texts: &Lexicon,
     number: usize,
     old: &[Option<Value>],
     step: &Step,
     new: &[Option<Value>],
 ) -> bool
     requires { number < length net.now.channels }
-    ensures { IsTrue result ↔ ChannelAllows net.now number old.now step.now new.now }
+    ensures { IsTrue result ↔ ChannelAllows net.now texts.now number old.now (datum step.now) new.now }
 {
-    let channel = net.channels()[number];
+    let channel = &net.channels()[number];
     let end_a = (net.ports().len() + 2 * number) as u32;
     let a = datum_at(step, end_a);
     let b = datum_at(step, end_a + 1);
-    let was = held_at(old, number);
-    let is = held_at(new, number);
+    let was = content(net, number, channel, old);
+    let is = content(net, number, channel, new);
     if a.is_none() && b.is_none() {
         same(is, was)
     } else {
-        is_channel_step(channel.kind, was, a, b, is)
+        channel.kind.allows(texts, was, a, b, is)
     }
 }
 
-fn channels_allow(net: &Net, old: &[Option<Value>], step: &Step, new: &[Option<Value>]) -> bool
-    ensures { IsTrue result ↔ ((k : ℕ) → ChannelAllows net.now k old.now step.now new.now) }
+fn channels_allow(
+    net: &Net,
+    texts: &Lexicon,
+    old: &[Option<Value>],
+    step: &Step,
+    new: &[Option<Value>],
+) -> bool
+    ensures { IsTrue result ↔ ((k : ℕ) → ChannelAllows net.now texts.now k old.now (datum step.now) new.now) }
 {
     for number in 0..net.channels().len() {
-        if !channel_allows(net, number, old, step, new) {
+        if !channel_allows(net, texts, number, old, step, new) {
             return false;
         }
     }
     true
 }
 
-// The node of a name, and whether data come into the node there.
-fn node_of(net: &Net, name: u32) -> (u32, bool)
-    requires { name < name_count net.now }
-    ensures { MatchBool result.1 (IsIncoming net.now result.0 name) (IsOutgoing net.now result.0 name) }
+fn stands_so(found: Option<Stand>, wanted: Stand) -> bool
+    ensures { IsTrue result ↔ (found ≡ Some wanted) }
 {
-    let ports = net.ports();
-    let name = name as usize;
-    if name < ports.len() {
-        let port = ports[name];
-        return (port.node, port.way == Way::Put);
-    }
-    let end = name - ports.len();
-    let channel = net.channels()[end / 2];
-    if end % 2 == 0 {
-        (channel.a, false)
-    } else {
-        (channel.b, true)
-    }
+    found == Some(wanted)
 }
 
 fn is_incoming(net: &Net, node: u32, name: u32) -> bool
-    requires { name < name_count net.now }
     ensures { IsTrue result ↔ IsIncoming net.now node name }
 {
-    let (at, incoming) = node_of(net, name);
-    at == node && incoming
+    let incoming = Stand {
+        node,
+        incoming: true,
+    };
+    stands_so(stand_of(net, name), incoming)
 }
 
 fn is_outgoing(net: &Net, node: u32, name: u32) -> bool
-    requires { name < name_count net.now }
     ensures { IsTrue result ↔ IsOutgoing net.now node name }
 {
-    let (at, incoming) = node_of(net, name);
-    at == node && !incoming
+    let outgoing = Stand {
+        node,
+        incoming: false,
+    };
+    stands_so(stand_of(net, name), outgoing)
+}
+
+fn is_name_of(net: &Net, node: u32, name: u32) -> bool
+    ensures { IsTrue result ↔ IsNameOf net.now node name }
+{
+    is_incoming(net, node, name) || is_outgoing(net, node, name)
 }
 
 // Whether no name of the node is in the step.
 fn is_quiet(net: &Net, node: u32, step: &Step) -> bool
-    ensures { IsTrue result ↔ NodeStays net.now node step.now }
+    ensures { IsTrue result ↔ NodeStays net.now node (datum step.now) }
 {
     for name in 0..net.names() {
-        if node_of(net, name).0 == node && datum_at(step, name).is_some() {
+        if is_name_of(net, node, name) && datum_at(step, name).is_some() {
             return false;
         }
     }
@@ -177,7 +180,7 @@ fn is_quiet(net: &Net, node: u32, step: &Step) -> bool
 
 // An incoming name of the node that fires.
 fn firing_input(net: &Net, node: u32, step: &Step) -> Option<u32>
-    ensures { MatchOption result ((name : ℕ) → IsInput net.now node step.now name → ⊥) (IsInput net.now node step.now) }
+    ensures { MatchOption result ((name : ℕ) → IsInput net.now node (datum step.now) name → ⊥) (IsInput net.now node (datum step.now)) }
 {
     for name in 0..net.names() {
         if is_incoming(net, node, name) && datum_at(step, name).is_some() {
@@ -200,7 +203,7 @@ fn has_output(net: &Net, node: u32) -> bool
 
 // Whether no other incoming name of the node fires.
 fn is_alone(net: &Net, node: u32, step: &Step, input: u32) -> bool
-    ensures { IsTrue result ↔ IsAlone net.now node step.now input }
+    ensures { IsTrue result ↔ IsAlone net.now node (datum step.now) input }
 {
     for name in 0..net.names() {
         if name != input && is_incoming(net, node, name) && datum_at(step, name).is_some() {
@@ -212,7 +215,7 @@ fn is_alone(net: &Net, node: u32, step: &Step, input: u32) -> bool
 
 // Whether the step has this datum at each outgoing name of the node.
 fn all_get(net: &Net, node: u32, step: &Step, wanted: &Option<Value>) -> bool
-    ensures { IsTrue result ↔ AllGet net.now node step.now wanted.now }
+    ensures { IsTrue result ↔ AllGet net.now node (datum step.now) wanted.now }
 {
     for name in 0..net.names() {
         if is_outgoing(net, node, name) {
@@ -226,7 +229,7 @@ fn all_get(net: &Net, node: u32, step: &Step, wanted: &Option<Value>) -> bool
 }
 
 fn is_node_step(net: &Net, node: u32, step: &Step) -> bool
-    ensures { IsTrue result ↔ NodeStep net.now node step.now }
+    ensures { IsTrue result ↔ NodeStep net.now node (datum step.now) }
 {
     let Some(input) = firing_input(net, node, step) else {
         return false;
@@ -242,13 +245,13 @@ fn is_node_step(net: &Net, node: u32, step: &Step) -> bool
 
 /// Whether no name of the node is in the step, or one that comes in and all that go out, where some go out, with one datum.
 pub fn node_allows(net: &Net, node: u32, step: &Step) -> bool
-    ensures { IsTrue result ↔ NodeAllows net.now node step.now }
+    ensures { IsTrue result ↔ NodeAllows net.now node (datum step.now) }
 {
     is_quiet(net, node, step) || is_node_step(net, node, step)
 }
 
 fn nodes_allow(net: &Net, step: &Step) -> bool
-    ensures { IsTrue result ↔ ((node : ℕ) → node < net.now.nodes → NodeAllows net.now node step.now) }
+    ensures { IsTrue result ↔ ((node : ℕ) → node < net.now.nodes → NodeAllows net.now node (datum step.now)) }
 {
     for node in 0..net.nodes() {
         if !node_allows(net, node, step) {
@@ -259,12 +262,18 @@ fn nodes_allow(net: &Net, step: &Step) -> bool
 }
 
 /// Whether the step is one of the product, from the one list to the other. Lists of any length are taken.
-pub fn is_product_step(net: &Net, old: &[Option<Value>], step: &Step, new: &[Option<Value>]) -> bool
-    ensures { IsTrue result ↔ ProductStep net.now old.now step.now new.now }
+pub fn is_product_step(
+    net: &Net,
+    texts: &Lexicon,
+    old: &[Option<Value>],
+    step: &Step,
+    new: &[Option<Value>],
+) -> bool
+    ensures { IsTrue result ↔ ProductStep net.now texts.now old.now step.now new.now }
 {
-    let cells = net.channels().len();
+    let cells = fifos_in(net.channels());
     if old.len() != cells || new.len() != cells || !is_step(net, step) {
         return false;
     }
-    channels_allow(net, old, step, new) && nodes_allow(net, step)
+    channels_allow(net, texts, old, step, new) && nodes_allow(net, step)
 }

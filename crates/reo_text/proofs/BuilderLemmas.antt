@@ -11,7 +11,7 @@ use Rattle.reo_value.specs.declared.op.Op.{Op}
 use Rattle.reo_value.specs.declared.op.Way.{Way}
 use Rattle.reo_value.specs.declared.value.Value.{Value}
 use Rattle.reo_value.specs.declared.value.Value.TheVariants.{Int}
-use Rattle.reo_net.specs.declared.circuit.Kind.TheVariants.{Fifo}
+use Rattle.reo_net.specs.declared.kind.Kind.TheVariants.{Fifo}
 use Rattle.reo_net.specs.declared.circuit.Channel.{Channel}
 use Rattle.reo_net.specs.declared.circuit.Port.{Port}
 use Rattle.reo_text.specs.declared.line.Line.{Line}
@@ -55,8 +55,8 @@ HasNumbersBelow-port n node way below = record {
 }
 
 pub no_text : (first : Option ℤ) → HasTextsBelow 0 (Fifo (option_map Int first))
-no_text None = tt
-no_text (Some number) = tt
+no_text None = All-nil (λ text. text < 0)
+no_text (Some number) = All-nil (λ text. text < 0)
 
 HasNumbersBelow-fifo : (n : ℕ) (channel : Channel) → channel.a < n → channel.b < n → HasTextsBelow 0 channel.kind → HasNumbersBelow n (line.Channel channel ∷ [])
 HasNumbersBelow-fifo n channel below_a below_b constant = record {

@@ -17,7 +17,7 @@ use Rattle.reo_value.specs.declared.op.Way.{Way}
 use Rattle.reo_value.specs.declared.op.Way.TheVariants.{Put, Get}
 use Rattle.reo_value.specs.declared.value.Value.TheVariants.{Int}
 use Rattle.reo_value.proofs.LexiconLemmas.{place_of-append, place_of-append_after, place_of-added, place_of-added_itself}
-use Rattle.reo_net.specs.declared.circuit.Kind.TheVariants.{Fifo}
+use Rattle.reo_net.specs.declared.kind.Kind.TheVariants.{Fifo}
 use Rattle.reo_text.specs.declared.line.Line.TheVariants as line
 use Rattle.reo_text.specs.declared.builder.Builder.{Builder}
 use Rattle.reo_text.specs.declared.builder.Seat.{Seat}

@@ -6,7 +6,7 @@ use Rattle.reo_value.specs.Lexicon.{place_of, added}
 use Rattle.reo_value.specs.declared.op.Op.{Op}
 use Rattle.reo_value.specs.declared.op.Op.TheVariants as op
 use Rattle.reo_value.specs.declared.value.Value.TheVariants.{Int}
-use Rattle.reo_net.specs.declared.circuit.Kind.TheVariants.{Fifo}
+use Rattle.reo_net.specs.declared.kind.Kind.TheVariants.{Fifo}
 use Rattle.reo_net.specs.declared.circuit.Channel.{Channel}
 use Rattle.reo_net.specs.declared.circuit.Port.{Port}
 use Rattle.reo_net.specs.declared.circuit.RawCircuit.{RawCircuit}

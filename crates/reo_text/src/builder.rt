@@ -96,7 +96,7 @@ impl Builder {
             port: self.ports,
             owner: None,
         };
-        self.lines.extend_from_slice(&[Line::Port(way, node)])?;
+        self.lines.push(Line::Port(way, node))?;
         let node = node as usize;
         self.seats[node] = self.seats[node].or(Some(seat));
         self.ports += 1;
@@ -121,8 +121,7 @@ impl Builder {
         let a = self.number(alloc, a)?;
         let b = self.number(alloc, b)?;
         let kind = Kind::Fifo(value_of(first));
-        let line = Line::Channel(Channel { kind, a, b });
-        self.lines.extend_from_slice(&[line])?;
+        self.lines.push(Line::Channel(Channel { kind, a, b }))?;
         Ok(true)
     }
 

@@ -29,8 +29,12 @@ pub struct Document {
 impl Model for Document {
     ghost use Rattle.reo_text.specs.Parts.{DocumentData};
     ghost use Rattle.reo_text.specs.Document.{IsDocument};
+    ghost use Rattle.reo_guard.specs.contracts.guard.Guard as guard;
+    ghost use Rattle.std.specs.Coded.{codes};
 
     ghost Value = { DocumentData };
+
+    ghost coded = { Prim.hlevel (codes, guard.the_row.coded) };
 
     ghost view = { λ d. record { lines = d.lines.items; nodes = d.nodes; texts = d.texts; people = d.people; scripts = d.scripts.items } };
 
@@ -116,7 +120,7 @@ fn channels_in(alloc: Global, lines: &[Line]) -> Result<Items<Channel>, AllocErr
     let mut channels = Vec::new(alloc);
     for line in lines {
         if let Some(channel) = line.channel() {
-            channels.extend_from_slice(&[channel])?;
+            channels.push(channel.try_clone(alloc)?)?;
         }
     }
     Ok(Items::from_vec(channels))

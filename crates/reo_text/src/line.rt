@@ -1,11 +1,12 @@
 ghost use Rattle.std.specs.Prelude.{◌≡◌};
+ghost use Rattle.std.specs.Option.{option_copied};
 ghost use Rattle.reo_text.specs.Parts.{channel_in, port_in};
 
 use reo_net::{Channel, Port};
 use reo_value::Way;
 
 /// A line of a document's circuit, with its nodes by number.
-#[derive(Clone, Copy, Debug, PartialEq, Eq)]
+#[derive(Drop)]
 pub enum Line {
     /// A port of this way at this node.
     Port(Way, u32),
@@ -13,8 +14,9 @@ pub enum Line {
 }
 
 impl Line {
-    pub fn channel(self) -> Option<Channel>
-        ensures { result ≡ channel_in self }
+    /// The channel of a channel line.
+    pub fn channel(&self) -> Option<&Channel>
+        ensures { option_copied result ≡ channel_in self.now }
     {
         match self {
             Line::Port(_, _) => None,
@@ -22,11 +24,15 @@ impl Line {
         }
     }
 
-    pub fn port(self) -> Option<Port>
-        ensures { result ≡ port_in self }
+    /// The port of a port line.
+    pub fn port(&self) -> Option<Port>
+        ensures { result ≡ port_in self.now }
     {
         match self {
-            Line::Port(way, node) => Some(Port { node, way }),
+            Line::Port(way, node) => Some(Port {
+                node: *node,
+                way: *way,
+            }),
             Line::Channel(_) => None,
         }
     }

@@ -1,9 +1,15 @@
 -- The cause of each status, and what the causes rule out.
-use Rattle.std.proofs.Common.{◌≡◌, ℕ, ◌≤◌, ◌⊎◌, List, length, Some, refl, sym, ap, ◌∙◌, subst, inl, inr, ⊎_elim, arith}
+use Rattle.std.proofs.Common.{◌≡◌, ℕ, ◌+◌, ◌≤◌, ◌⊎◌, List, length, get_or, slice_get, Bool, true, false, Some, None, refl, sym, ap, ◌∙◌, subst, inl, inr, ⊎_elim, arith}
 use Rattle.std.specs.Borrow.{Bor}
 use Rattle.reo_base.specs.Faults.{Rose}
 use Rattle.reo_base.specs.Streams.{IsReadWhole}
-use Rattle.reo_net.specs.Checks.{IsChecked}
+use Rattle.reo_graph.specs.Paths.{IsLeast}
+use Rattle.reo_net.specs.Kind.{is_fifo}
+use Rattle.reo_net.specs.declared.circuit.Channel.{Channel}
+use Rattle.std.proofs.lemmas.Option.{slice_get-get_or}
+use Rattle.reo_net.specs.Checks.{IsChecked, IsFifoOnly}
+use Rattle.reo_net.proofs.FifoLemmas.{fifo_at}
+use Rattle.std.proofs.lemmas.Bool.{false≢true}
 use Rattle.reo_net.specs.Refusals.{Refuses}
 use Rattle.reo_net.specs.declared.net.CheckRefusal.{CheckRefusal}
 use Rattle.reo_net.specs.declared.net.CheckRefusal.TheVariants as refusal
@@ -17,8 +23,16 @@ use Rattle.reo_trace.specs.Lawful.{IsLawfulReport}
 use Rattle.reo_tool.specs.declared.status.Status.{Status}
 use Rattle.reo_tool.specs.declared.status.Status.TheVariants.{Done, Stuck, Limit, Refused, Usage, ReadFault, WriteFault, Memory}
 use Rattle.reo_tool.specs.Status.{status_of}
-use Rattle.reo_tool.specs.FaultText.{line_text, check_text}
-use Rattle.reo_tool.specs.Call.{IsRunPlain, Streams, IsAccepted, IsReported, IsRun, RefusedFor, ForLine, ForCircuit, ReadFaultFor, ForFault, ForLength, HasCauseFor, WrittenOut, ToldOrMemory, IsPromised, IsRefusable, IsOverlong, IsOrAbove, most_steps, most_bytes}
+use Rattle.reo_tool.specs.FaultText.{line_text, channel_text, check_text}
+use Rattle.reo_tool.specs.Call.{IsRunPlain, Streams, IsAccepted, IsReported, IsRun, RefusedFor, ForLine, ForCircuit, ForChannel, IsOtherChannel, ReadFaultFor, ForFault, ForLength, HasCauseFor, WrittenOut, ToldOrMemory, IsPromised, IsRefusable, IsOverlong, IsOrAbove, most_steps, most_bytes}
+
+-- where no channel is another, all are FIFO1s
+pub only_fifos : (c : RawCircuit) (channels : List Channel) → channels ≡ c.channels → IsLeast (IsOtherChannel channels) None → IsFifoOnly c
+only_fifos c channels same none k d h = go (is_fifo (get_or c.channels k d).kind) refl
+  where
+    go : (b : Bool) → is_fifo (get_or c.channels k d).kind ≡ b → is_fifo (get_or c.channels k d).kind ≡ true
+    go true e = e
+    go false e = absurd (none k (record { channel = get_or c.channels k d; found = ap (λ chs. slice_get chs k) same ∙ slice_get-get_or c.channels k d h; other = e }))
 
 -- an ending has the cause of a run
 run_cause : (words : List (Bor (List ℕ))) (before after : Streams) (e : Ending) → IsRun words before after (status_of e) → HasCauseFor words before after (status_of e)
@@ -41,7 +55,11 @@ module _ (words : List (Bor (List ℕ))) (before after : Streams) (asked : IsRun
   circuit_cause document refused result spelled refuses named quiet told =
       refused_cause (check_text document.nodes refused) result (λ is. ForCircuit document refused spelled refuses (λ e. named e is) refl) quiet told
 
-  pub report_cause : (document : DocumentData) (report : Report) (result : Status) → Spells bytes document → IsAccepted document → IsLawfulReport (circuit_of document) document.scripts most_steps report → length report.steps ≤ most_steps → (result ≡ status_of report.ending → after.err ≡ before.err) → WrittenOut (circuit_of document) document report before.out after.out before.out_faults after.out_faults before.err after.err before.err_faults after.err_faults result → HasCauseFor words before after result
+  pub channel_cause : (document : DocumentData) (number : ℕ) (result : Status) → Spells bytes document → IsChecked (circuit_of document) → IsLeast (IsOtherChannel (circuit_of document).channels) (Some number) → after.out ≡ before.out → ToldOrMemory Refused before.err after.err before.err_faults after.err_faults (channel_text (number + 1)) result → HasCauseFor words before after result
+  channel_cause document number result spelled checked least quiet told =
+      refused_cause (channel_text (number + 1)) result (λ is. ForChannel document number spelled checked least refl) quiet told
+
+  pub report_cause : (document : DocumentData) (report : Report) (result : Status) → Spells bytes document → IsAccepted document → IsLawfulReport (circuit_of document) document.texts document.scripts most_steps report → length report.steps ≤ most_steps → (result ≡ status_of report.ending → after.err ≡ before.err) → WrittenOut (circuit_of document) document report before.out after.out before.out_faults after.out_faults before.err after.err before.err_faults after.err_faults result → HasCauseFor words before after result
   report_cause document report result spelled accepted lawful within quiet written =
       ⊎_elim
       (λ w.
@@ -72,12 +90,17 @@ not_accepted c (refusal.TooManyChannels count) r named checked = omega (arith, r
 not_accepted c (refusal.TooManyPorts count) r named checked = omega (arith, r.1, checked.few_ports)
 not_accepted c (refusal.PortTwice node) r named checked = checked.one_port node r.2.0
 not_accepted c (refusal.MixedPort node) r named checked = checked.unmixed node r.3.0
+not_accepted c (refusal.SyncLoop node) r named checked = checked.acyclic node r.4.0
 not_accepted c refusal.NoMemory r named checked = named refl
 
 no_refusal : (bytes text : List ℕ) (d : DocumentData) → Spells bytes d → IsAccepted d → RefusedFor bytes text → ⊥
 no_refusal bytes text d spelled accepted (ForLine line at is) = not_both bytes d line spelled at
 no_refusal bytes text d spelled accepted (ForCircuit e refused spelled_e refuses named is) =
-    not_accepted (circuit_of e) refused refuses named (subst IsAccepted (one_document bytes d e spelled spelled_e) accepted)
+    not_accepted (circuit_of e) refused refuses named (subst IsAccepted (one_document bytes d e spelled spelled_e) accepted).checked
+no_refusal bytes text d spelled accepted (ForChannel e number spelled_e checked least is) =
+    let at = least.0 in
+    let only = (subst IsAccepted (one_document bytes d e spelled spelled_e) accepted).only in
+    false≢true (sym at.other ∙ fifo_at (circuit_of e) only number at.channel at.found)
 
 no_read_fault : (before after : Streams) (input : List ℕ) → before.left ≡ Some input → length input ≤ most_bytes → (Rose before.source_faults after.source_faults → ⊥) → ReadFaultFor before after → ⊥
 no_read_fault before after input told short held (ForFault rose text) = held rose

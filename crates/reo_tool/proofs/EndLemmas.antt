@@ -7,10 +7,13 @@ use Rattle.reo_value.specs.declared.op.Way.{Way}
 use Rattle.reo_value.specs.declared.op.Way.TheVariants as way
 use Rattle.reo_net.specs.declared.circuit.Channel.{Channel}
 use Rattle.reo_net.specs.declared.circuit.Port.{Port}
-use Rattle.reo_net.specs.declared.circuit.Kind.{Kind}
-use Rattle.reo_net.specs.declared.circuit.Kind.TheVariants.{Fifo}
+use Rattle.reo_net.specs.declared.kind.Kind.{Kind}
 use Rattle.reo_net.specs.declared.circuit.RawCircuit.{RawCircuit}
-use Rattle.reo_net.specs.Names.{Incoming, Outgoing, direction_of_b, IsIncoming, IsOutgoing}
+use Rattle.reo_net.specs.Kind.{is_fifo, Incoming, Outgoing, direction_of_b}
+use Rattle.reo_net.specs.Names.{IsIncoming, IsOutgoing}
+use Rattle.reo_net.specs.Checks.{IsFifoOnly}
+use Rattle.reo_net.proofs.KindLemmas.{fifo_kind}
+use Rattle.reo_net.proofs.FifoLemmas.{fifo_at}
 use Rattle.reo_tool.specs.declared.ends.End.{End}
 use Rattle.reo_tool.specs.declared.ends.End.TheVariants.{Put, Get, Source, Sink}
 use Rattle.reo_tool.specs.Ends.{is_incoming, end_name, port_end, end_if, port_ends, channel_ends, ends_at}
@@ -104,16 +107,13 @@ stands_channel node k (first ∷ channels) (suc i) channel e =
     (λ at. subst (λ n. Stands (front ++ rest) (Source n)) shift (stands_right front rest (Source (k + 1 + i)) (later.0 at)), λ at. subst (λ n. Stands (front ++ rest) (Sink n)) shift (stands_right front rest (Sink (k + 1 + i)) (later.1 at)))
 
 -- end b of a FIFO1 is where data come out
-fifo_direction : (channel : Channel) → direction_of_b channel.kind ≡ Incoming
-fifo_direction channel = by channel.kind
-  where
-    by : (kind : Kind) → direction_of_b kind ≡ Incoming
-    by (Fifo first) = refl
+fifo_direction : (kind : Kind) → is_fifo kind ≡ true → direction_of_b kind ≡ Incoming
+fifo_direction kind e = let at = fifo_kind kind e in ap direction_of_b at.1
 
-no_outgoing_b : (channel : Channel) → direction_of_b channel.kind ≡ Outgoing → ⊥
-no_outgoing_b channel e = let clash : Incoming ≡ Outgoing = sym (fifo_direction channel) ∙ e in cc
+no_outgoing_b : (kind : Kind) → is_fifo kind ≡ true → direction_of_b kind ≡ Outgoing → ⊥
+no_outgoing_b kind is e = let clash : Incoming ≡ Outgoing = sym (fifo_direction kind is) ∙ e in cc
 
-module _ (c : RawCircuit) (node : ℕ) where
+module _ (c : RawCircuit) (only : IsFifoOnly c) (node : ℕ) where
   of_port : (number : ℕ) (port : Port) (end : End) → slice_get c.ports number ≡ Some port → port.node ≡ node → end ≡ port_end port.way (0 + number) → IsEndOf c node end
   of_port number port end found at is = by port.way port.node at found is
     where
@@ -146,7 +146,7 @@ module _ (c : RawCircuit) (node : ℕ) where
   incoming_name (Put p) is e = inl (record { port = is })
   incoming_name (Get p) is e = absurd (false≢true e)
   incoming_name (Source k) is e = absurd (false≢true e)
-  incoming_name (Sink k) is e = inr (record { number = k; channel = is.0; found = is.1; at = is.2; way = fifo_direction is.0; named = refl })
+  incoming_name (Sink k) is e = inr (record { number = k; channel = is.0; found = is.1; at = is.2; way = fifo_direction is.0.kind (fifo_at c only k is.0 is.1); named = refl })
 
   pub outgoing_name : (end : End) → IsEndOf c node end → is_incoming end ≡ false → IsOutgoing c node (end_name (length c.ports) end)
   outgoing_name (Put p) is e = absurd (false≢true (sym e))
@@ -163,5 +163,5 @@ module _ (c : RawCircuit) (node : ℕ) where
   end_of_outgoing name outgoing =
       ⊎_elim
       (λ p. (Get name, p.port, refl, refl))
-      (λ f. ⊎_elim (λ a. (Source a.number, (a.channel, a.found, a.at), refl, sym a.named)) (λ b. absurd (no_outgoing_b b.channel b.way)) f)
+      (λ f. ⊎_elim (λ a. (Source a.number, (a.channel, a.found, a.at), refl, sym a.named)) (λ b. absurd (no_outgoing_b b.channel.kind (fifo_at c only b.number b.channel b.found) b.way)) f)
       outgoing

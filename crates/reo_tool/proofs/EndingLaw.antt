@@ -11,10 +11,10 @@ use Rattle.reo_net.specs.declared.circuit.Step.{Step}
 use Rattle.reo_net.specs.Steps.{State}
 use Rattle.reo_net.specs.Runs.{initial_state, IsEnabled}
 use Rattle.std.specs.List.{range_with_len}
-use Rattle.reo_net.specs.Checks.{IsCircuit}
+use Rattle.reo_net.specs.Checks.{IsCircuit, IsFifoOnly}
 use Rattle.reo_net.specs.Regions.{Automaton, OfNode, AreRegions}
 use Rattle.reo_net.proofs.RegionLemmas.{nodes_are_regions}
-use Rattle.reo_net.proofs.FifoLemmas.{initial_is_state}
+use Rattle.reo_net.proofs.CellLemmas.{initial_is_state}
 use Rattle.reo_trace.specs.declared.report.Called.{Called}
 use Rattle.reo_trace.specs.declared.report.Ending.{Ending}
 use Rattle.reo_trace.specs.declared.report.Ending.TheVariants.{Done, Stuck, Limit}
@@ -47,8 +47,8 @@ same_when_answered (s ∷ scripts) [] all = refl
 same_when_answered (s ∷ scripts) (o ∷ calls) all =
     and_from (eqb (length s) (length o)) (same_lengths scripts calls) (eq-eqb (length s) (length o) (let e : length s ≡ length o = cc in e)) (same_when_answered scripts calls (let e : map length calls ≡ map length scripts = cc in e))
 
-module _ (c : RawCircuit) (scripts : List (List Op)) (calls : List (List Called)) (limit steps : ℕ) (final : State) (count : length calls ≡ length scripts) where
-  pub ends_done : same_lengths scripts calls ≡ true → IsEndingOf c scripts calls limit steps final Done
+module _ (c : RawCircuit) (texts : List (List ℕ)) (scripts : List (List Op)) (calls : List (List Called)) (limit steps : ℕ) (final : State) (count : length calls ≡ length scripts) where
+  pub ends_done : same_lengths scripts calls ≡ true → IsEndingOf c texts scripts calls limit steps final Done
   ends_done same =
       let all = all_answered scripts calls count same in
       record {
@@ -60,14 +60,14 @@ module _ (c : RawCircuit) (scripts : List (List Op)) (calls : List (List Called)
   not_all : same_lengths scripts calls ≡ false → AllAnswered scripts calls → ⊥
   not_all differ all = false≢true (sym differ ∙ same_when_answered scripts calls all)
 
-  pub ends_stuck : same_lengths scripts calls ≡ false → steps < limit → (IsEnabled c final (next_ops scripts calls) → ⊥) → IsEndingOf c scripts calls limit steps final Stuck
+  pub ends_stuck : same_lengths scripts calls ≡ false → steps < limit → (IsEnabled c texts final (next_ops scripts calls) → ⊥) → IsEndingOf c texts scripts calls limit steps final Stuck
   ends_stuck differ below quiet = record {
     done = (λ e. (let clash : Stuck ≡ Done = e in cc), λ all. absurd (not_all differ all));
     at_limit = (λ e. (let clash : Stuck ≡ Limit = e in cc), λ h. absurd (omega (arith, h.1)));
     stuck = (λ _. (not_all differ, below, quiet), λ _. refl);
   }
 
-  pub ends_at_limit : same_lengths scripts calls ≡ false → limit ≤ steps → IsEndingOf c scripts calls limit steps final Limit
+  pub ends_at_limit : same_lengths scripts calls ≡ false → limit ≤ steps → IsEndingOf c texts scripts calls limit steps final Limit
   ends_at_limit differ reached = record {
     done = (λ e. (let clash : Limit ≡ Done = e in cc), λ all. absurd (not_all differ all));
     at_limit = (λ _. (not_all differ, reached), λ _. refl);
@@ -85,8 +85,8 @@ no_own zero k own e = cc
 no_own (suc components) zero own e = sym (same_Some [] own e)
 no_own (suc components) (suc k) own e = no_own components k own e
 
-pub begins : (c : RawCircuit) (scripts : List (List Op)) (components : ℕ) → components ≡ length scripts → IsUnderWay c scripts (initial_state c) [] (replicate components [])
-begins c scripts components count = record {
+pub begins : (c : RawCircuit) (texts : List (List ℕ)) (scripts : List (List Op)) (components : ℕ) → components ≡ length scripts → IsUnderWay c texts scripts (initial_state c) [] (replicate components [])
+begins c texts scripts components count = record {
   is_state = initial_is_state c;
   run = refl;
   firings = All-nil (FiresOneRegion c);
@@ -98,10 +98,10 @@ begins c scripts components count = record {
 }
 
 -- what a report has
-pub is_lawful : (c : RawCircuit) (scripts : List (List Op)) (limit : ℕ) (cells : State) (steps : List Step) (calls : List (List Called)) (ending : Ending) → IsCircuit c → 1 ≤ limit → IsUnderWay c scripts cells steps calls → length steps ≤ limit → IsEndingOf c scripts calls limit (length steps) cells ending → IsLawfulReport c scripts limit (record { steps = steps; calls = calls; ending = ending })
-is_lawful c scripts limit cells steps calls ending circuit some so_far within ended =
+pub is_lawful : (c : RawCircuit) (texts : List (List ℕ)) (scripts : List (List Op)) (limit : ℕ) (cells : State) (steps : List Step) (calls : List (List Called)) (ending : Ending) → IsCircuit c → IsFifoOnly c → 1 ≤ limit → IsUnderWay c texts scripts cells steps calls → length steps ≤ limit → IsEndingOf c texts scripts calls limit (length steps) cells ending → IsLawfulReport c texts scripts limit (record { steps = steps; calls = calls; ending = ending })
+is_lawful c texts scripts limit cells steps calls ending circuit only some so_far within ended =
     let roots : List Automaton = map OfNode (range_with_len 0 c.nodes) in
-    let are : AreRegions c roots = nodes_are_regions c circuit in
+    let are : AreRegions c roots = nodes_are_regions c circuit only in
     record {
       final = cells;
       run = so_far.run;
@@ -120,8 +120,9 @@ is_lawful c scripts limit cells steps calls ending circuit some so_far within en
     }
 
 -- what a run goes by, from what was read off the circuit and the scripts
-pub is_board : (c : RawCircuit) (scripts : List (List Op)) (junctions : List (List End)) (owners : List (Option ℕ)) (nodes count : ℕ) (ports : List Port) (channels : List Channel) → nodes ≡ c.nodes → ports ≡ c.ports → channels ≡ c.channels → length junctions ≡ nodes → ((node : ℕ) → node < nodes → slice_get junctions node ≡ Some (ends_at ports channels node)) → count ≡ length c.ports → owners ≡ owners_from 0 scripts (replicate count None) → ScriptsFit c scripts → IsBoard c scripts junctions owners
-is_board c scripts junctions owners nodes count ports channels same_nodes same_ports same_channels long each same_count are fit = record {
+pub is_board : (c : RawCircuit) (scripts : List (List Op)) (junctions : List (List End)) (owners : List (Option ℕ)) (nodes count : ℕ) (ports : List Port) (channels : List Channel) → IsFifoOnly c → nodes ≡ c.nodes → ports ≡ c.ports → channels ≡ c.channels → length junctions ≡ nodes → ((node : ℕ) → node < nodes → slice_get junctions node ≡ Some (ends_at ports channels node)) → count ≡ length c.ports → owners ≡ owners_from 0 scripts (replicate count None) → ScriptsFit c scripts → IsBoard c scripts junctions owners
+is_board c scripts junctions owners nodes count ports channels only same_nodes same_ports same_channels long each same_count are fit = record {
+  only = only;
   count = long ∙ same_nodes;
   ends = λ node h.
       each node (omega (arith, same_nodes)) ∙ (ap (λ x. Some (ends_at x channels node)) same_ports ∙ ap (λ x. Some (ends_at c.ports x node)) same_channels);

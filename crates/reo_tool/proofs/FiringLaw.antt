@@ -1,5 +1,5 @@
 -- A firing that a node can make is a step of the product: a connected firing of one region, by what is offered.
-use Rattle.std.proofs.Common.{◌≡◌, ◌≢◌, ℕ, ◌<◌, ◌⊎◌, List, [], ◌∷◌, length, slice_get, get_or, map, filter, Option, Some, None, IsSome, is_some, IfSome, Contains, refl, sym, ap, ◌∙◌, subst, inl, inr, ⊎_elim, Bool, true, false, not, ◌||◌, nat_eq, arith}
+use Rattle.std.proofs.Common.{◌≡◌, ◌≢◌, ℕ, ◌<◌, ◌⊎◌, List, [], ◌∷◌, length, slice_get, get_or, map, filter, Option, Some, None, IsSome, is_some, IfSome, Contains, IsTrue, refl, sym, ap, ◌∙◌, subst, inl, inr, ⊎_elim, Bool, true, false, not, ◌||◌, nat_eq, arith}
 use Rattle.std.specs.List.{AllByRecursion}
 use Rattle.std.specs.Map.{lookup}
 use Rattle.std.proofs.Math.Bool.{or-true}
@@ -10,18 +10,20 @@ use Rattle.reo_value.specs.declared.value.Value.{Value}
 use Rattle.reo_value.specs.declared.op.Op.{Op}
 use Rattle.reo_value.specs.declared.op.Op.TheVariants as op
 use Rattle.reo_value.specs.declared.op.Way.TheVariants as way
-use Rattle.reo_net.specs.declared.circuit.Kind.{Kind}
-use Rattle.reo_net.specs.declared.circuit.Kind.TheVariants.{Fifo}
+use Rattle.reo_net.specs.declared.kind.Kind.{Kind}
 use Rattle.reo_net.specs.declared.circuit.Channel.{Channel}
 use Rattle.reo_net.specs.declared.circuit.Port.{Port}
 use Rattle.reo_net.specs.declared.circuit.RawCircuit.{RawCircuit}
 use Rattle.reo_net.specs.declared.circuit.Step.{Step}
 use Rattle.reo_net.specs.Names.{name_count, end_a, end_b, IsIncoming, IsOutgoing, IsNameOf}
-use Rattle.reo_net.specs.Steps.{State, IsState, IsStep, datum, Fires, content, ChannelStep, ChannelStays, ChannelMoves, NodeFires, NodeStep, NodeStays, ProductStep}
-use Rattle.reo_net.specs.Runs.{op_at, UsesOffers}
+use Rattle.reo_net.specs.Kind.{is_fifo, Buffers, ChannelStep}
+use Rattle.reo_net.specs.Steps.{State, IsState, IsStep, datum, fires_in, content, ChannelStays, ChannelMoves, NodeFires, NodeStep, NodeStays, ProductStep}
+use Rattle.reo_net.specs.Runs.{IsOffered, UsesOffers}
+use Rattle.reo_net.specs.Checks.{IsFifoOnly}
+use Rattle.reo_net.proofs.KindLemmas.{buffer_step}
 use Rattle.reo_net.specs.Regions.{OfNode}
 use Rattle.reo_net.proofs.NameLemmas.{one_node, not_both_ways, name_below}
-use Rattle.reo_net.proofs.FifoLemmas.{content_at, state_length, state_from_length}
+use Rattle.reo_net.proofs.FifoLemmas.{fifo_at, content_by_number, state_length, state_from_length}
 use Rattle.reo_net.proofs.RegionLemmas.{node_is_region, connected_from_node}
 use Rattle.reo_trace.specs.Lawful.{FiresOneRegion}
 use Rattle.reo_tool.specs.declared.ends.End.{End}
@@ -96,25 +98,28 @@ pub fired_input : (input end : End) → is_incoming end ≡ true → fires_from 
 fired_input input end incoming fired = sym (same_ends input end (sym (ap (λ b. not b || is_same input end) incoming) ∙ fired))
 
 -- the two transitions of a FIFO1
-move_in : (value : Value) (kind : Kind) (held a b left : Option Value) → held ≡ None → a ≡ Some value → b ≡ None → left ≡ Some value → ChannelStep kind held a b left
-move_in value (Fifo first) held a b left eh ea eb el =
-    subst (λ x. ChannelStep (Fifo first) x a b left) (sym eh) (subst (λ x. ChannelStep (Fifo first) None x b left) (sym ea) (subst (λ x. ChannelStep (Fifo first) None (Some value) x left) (sym eb) el))
+module _ (texts : List (List ℕ)) (value : Value) (kind : Kind) (fifo : is_fifo kind ≡ true) (held a b left : Option Value) where
+  move_in : held ≡ None → a ≡ Some value → b ≡ None → left ≡ Some value → ChannelStep texts kind held a b left
+  move_in eh ea eb el =
+      buffer_step texts kind held a b left fifo
+      (subst (λ x. Buffers x a b left) (sym eh) (subst (λ x. Buffers None x b left) (sym ea) (subst (λ x. Buffers None (Some value) x left) (sym eb) el)))
 
-move_out : (value : Value) (kind : Kind) (held a b left : Option Value) → held ≡ Some value → a ≡ None → b ≡ Some value → left ≡ None → ChannelStep kind held a b left
-move_out value (Fifo first) held a b left eh ea eb el =
-    subst (λ x. ChannelStep (Fifo first) x a b left) (sym eh) (subst (λ x. ChannelStep (Fifo first) (Some value) x b left) (sym ea) (subst (λ x. ChannelStep (Fifo first) (Some value) None x left) (sym eb) (refl, el)))
+  move_out : held ≡ Some value → a ≡ None → b ≡ Some value → left ≡ None → ChannelStep texts kind held a b left
+  move_out eh ea eb el =
+      buffer_step texts kind held a b left fifo
+      (subst (λ x. Buffers x a b left) (sym eh) (subst (λ x. Buffers (Some value) x b left) (sym ea) (subst (λ x. Buffers (Some value) None x left) (sym eb) (refl, el))))
 
 all_named : (ports bound : ℕ) (value : Value) (ends : List End) → ((end : End) → Stands ends end → end_name ports end < bound) → AllByRecursion (λ (p : ℕ × Value). p.0 < bound) (map (λ end. (end_name ports end, value)) ends)
 all_named ports bound value [] h = tt
 all_named ports bound value (end ∷ ends) h =
     (h end (stands_head end ends), all_named ports bound value ends (λ x at. h x (stands_tail end ends x at)))
 
-pub record IsLawfulFiring (c : RawCircuit) (old : State) (step : Step) (new : State) (offers : List Op) : Type 0 where
-  pub product : ProductStep c old step new
+pub record IsLawfulFiring (c : RawCircuit) (texts : List (List ℕ)) (old : State) (step : Step) (new : State) (offers : List Op) : Type 0 where
+  pub product : ProductStep c texts old step new
   pub region : FiresOneRegion c step
-  pub offered : UsesOffers c offers step
+  pub offered : UsesOffers c offers (datum step)
 
-module _ (c : RawCircuit) (node : ℕ) (is_node : node < c.nodes) (old : State) (was_state : IsState c old) (offers : List Op) (input : End) (value : Value) (can : CanFire old offers (ends_at c.ports c.channels node) input value) where
+module _ (c : RawCircuit) (texts : List (List ℕ)) (only : IsFifoOnly c) (node : ℕ) (is_node : node < c.nodes) (old : State) (was_state : IsState c old) (offers : List Op) (input : End) (value : Value) (can : CanFire old offers (ends_at c.ports c.channels node) input value) where
   abbrev ends : List End
   ends = ends_at c.ports c.channels node
 
@@ -129,52 +134,52 @@ module _ (c : RawCircuit) (node : ℕ) (is_node : node < c.nodes) (old : State) 
   fired_end name w e =
       let found = found_end (length c.ports) (filter (fires_from input) ends) value name w e in
       let at = stands_filter (fires_from input) ends found.0 found.1 in
-      (found.0, end_of c node found.0 at.0, at.1, found.2, found.3)
+      (found.0, end_of c only node found.0 at.0, at.1, found.2, found.3)
 
   pub fired_has : (end : End) → IsEndOf c node end → fires_from input end ≡ true → datum step (end_name (length c.ports) end) ≡ Some value
-  fired_has end is fired = end_found (length c.ports) (filter (fires_from input) ends) value end (stands_passing (fires_from input) ends end (end_stands c node end is) fired)
+  fired_has end is fired = end_found (length c.ports) (filter (fires_from input) ends) value end (stands_passing (fires_from input) ends end (end_stands c only node end is) fired)
 
   is_input : IsEndOf c node input
-  is_input = end_of c node input (record { place = can.among.place; found = can.among.found })
+  is_input = end_of c only node input (record { place = can.among.place; found = can.among.found })
 
   comes_in : is_incoming input ≡ true
   comes_in = gives_incoming old offers input value can.given
 
   is_output : IsEndOf c node can.output
-  is_output = end_of c node can.output (record { place = can.goes_out.place; found = can.goes_out.found })
+  is_output = end_of c only node can.output (record { place = can.goes_out.place; found = can.goes_out.found })
 
   among : (end : End) → IsEndOf c node end → IsAmong ends end
-  among end is = let at = end_stands c node end is in record { place = at.place; found = at.found }
+  among end is = let at = end_stands c only node end is in record { place = at.place; found = at.found }
 
   name_of_end : (end : End) → IsEndOf c node end → IsNameOf c node (end_name (length c.ports) end)
   name_of_end end is = by (is_incoming end) refl
     where
       by : (b : Bool) → is_incoming end ≡ b → IsNameOf c node (end_name (length c.ports) end)
-      by true e = inl (incoming_name c node end is e)
-      by false e = inr (outgoing_name c node end is e)
+      by true e = inl (incoming_name c only node end is e)
+      by false e = inr (outgoing_name c only node end is e)
 
   -- the node makes a step
-  node_fires : NodeFires c node (Fires step)
+  node_fires : NodeFires c node (fires_in (datum step))
   node_fires = record {
     input = end_name (length c.ports) input;
-    incoming = incoming_name c node input is_input comes_in;
+    incoming = incoming_name c only node input is_input comes_in;
     chosen = is_some_since (datum step (end_name (length c.ports) input)) value (fired_has input is_input (input_fires input));
     alone = λ other incoming fired.
         let found = some_of (datum step other) fired in
         let end = fired_end other found.0 found.1 in
         by_way other incoming end.0 end.1 end.2 end.3 (is_incoming end.0) refl;
     all = λ name outgoing.
-        let end = end_of_outgoing c node name outgoing in
-        subst (Fires step) end.3 (is_some_since (datum step (end_name (length c.ports) end.0)) value (fired_has end.0 end.1 (outgoing_fires input end.0 end.2)));
+        let end = end_of_outgoing c only node name outgoing in
+        subst (λ name. IsTrue (fires_in (datum step) name)) end.3 (is_some_since (datum step (end_name (length c.ports) end.0)) value (fired_has end.0 end.1 (outgoing_fires input end.0 end.2)));
     output = end_name (length c.ports) can.output;
-    outgoing = outgoing_name c node can.output is_output can.outgoing;
+    outgoing = outgoing_name c only node can.output is_output can.outgoing;
   }
     where
       by_way : (other : ℕ) → IsIncoming c node other → (end : End) → IsEndOf c node end → fires_from input end ≡ true → end_name (length c.ports) end ≡ other → (b : Bool) → is_incoming end ≡ b → other ≡ end_name (length c.ports) input
       by_way other incoming end is fired named true way = sym named ∙ ap (end_name (length c.ports)) (fired_input input end way fired)
-      by_way other incoming end is fired named false way = absurd (not_both_ways c node node other incoming (subst (IsOutgoing c node) named (outgoing_name c node end is way)))
+      by_way other incoming end is fired named false way = absurd (not_both_ways c node node other incoming (subst (IsOutgoing c node) named (outgoing_name c only node end is way)))
 
-  node_step : NodeStep c node step
+  node_step : NodeStep c node (datum step)
   node_step = record {
     fires = node_fires;
     value = value;
@@ -182,7 +187,7 @@ module _ (c : RawCircuit) (node : ℕ) (is_node : node < c.nodes) (old : State) 
   }
 
   -- the other nodes stay
-  others_stay : (n : ℕ) → n ≢ node → NodeStays c n step
+  others_stay : (n : ℕ) → n ≢ node → NodeStays c n (datum step)
   others_stay n apart name of_n =
       none_unless (datum step name) (λ w e.
       let end = fired_end name w e in
@@ -219,25 +224,25 @@ module _ (c : RawCircuit) (node : ℕ) (is_node : node < c.nodes) (old : State) 
   not_both : (k : ℕ) → get_or old k None ≡ None → input ≢ Sink k
   not_both k empty is = let clash : None ≡ Some value = sym empty ∙ held_value k is in cc
 
-  channel_moves : (k : ℕ) (channel : Channel) → slice_get c.channels k ≡ Some channel → ChannelStays c k channel.kind old step new ⊎ ChannelMoves c k channel.kind old step new
+  channel_moves : (k : ℕ) (channel : Channel) → slice_get c.channels k ≡ Some channel → ChannelStays c k channel.kind old (datum step) new ⊎ ChannelMoves c texts k channel.kind old (datum step) new
   channel_moves k channel found =
       let below = slice_get_within c.channels k channel found in
-      let within : k < length old = omega (arith, state_length c old was_state) in
-      let at_old = content_at c k channel.kind old (omega (arith, below)) in
-      let at_new = content_at c k channel.kind new (omega (arith, below)) in
+      let within : k < length old = omega (arith, state_length c only old was_state) in
+      let at_old = content_by_number c only k channel old found in
+      let at_new = content_by_number c only k channel new found in
       ⊎_elim
       (λ (begins : channel.a ≡ node).
       let empty = was_empty k channel found begins in
       let is : IsEndOf c node (Source k) = (channel, found, begins) in
-      inr (move_in value channel.kind (content c k channel.kind old) (datum step (end_a c k)) (datum step (end_b c k)) (content c k channel.kind new) (at_old ∙ empty) (fired_has (Source k) is (outgoing_fires input (Source k) refl)) (none_unless (datum step (end_b c k)) (λ w e. not_both k empty (from_b k w e))) (at_new ∙ carried_in ends input value old k within (end_stands c node (Source k) is))))
+      inr (move_in texts value channel.kind (fifo_at c only k channel found) (content c k channel.kind old) (datum step (end_a c k)) (datum step (end_b c k)) (content c k channel.kind new) (at_old ∙ empty) (fired_has (Source k) is (outgoing_fires input (Source k) refl)) (none_unless (datum step (end_b c k)) (λ w e. not_both k empty (from_b k w e))) (at_new ∙ carried_in ends input value old k within (end_stands c only node (Source k) is))))
       (λ (apart : channel.a ≢ node).
       let no_a = none_unless (datum step (end_a c k)) (λ w e. apart (from_a k channel found w e)) in
-      let not_there : Stands ends (Source k) → ⊥ = λ at. (let is = end_of c node (Source k) at in apart (ap (λ (x : Channel). x.a) (same_Some channel is.0 (sym found ∙ is.1)) ∙ is.2)) in
+      let not_there : Stands ends (Source k) → ⊥ = λ at. (let is = end_of c only node (Source k) at in apart (ap (λ (x : Channel). x.a) (same_Some channel is.0 (sym found ∙ is.1)) ∙ is.2)) in
       ⊎_elim
       (λ (is : input ≡ Sink k).
       let is_end : IsEndOf c node (Sink k) = subst (IsEndOf c node) is is_input in
       let fired : fires_from input (Sink k) ≡ true = subst (λ end. fires_from input end ≡ true) is (input_fires input) in
-      inr (move_out value channel.kind (content c k channel.kind old) (datum step (end_a c k)) (datum step (end_b c k)) (content c k channel.kind new) (at_old ∙ held_value k is) no_a (fired_has (Sink k) is_end fired) (at_new ∙ carried_out ends input value old k within is not_there)))
+      inr (move_out texts value channel.kind (fifo_at c only k channel found) (content c k channel.kind old) (datum step (end_a c k)) (datum step (end_b c k)) (content c k channel.kind new) (at_old ∙ held_value k is) no_a (fired_has (Sink k) is_end fired) (at_new ∙ carried_out ends input value old k within is not_there)))
       (λ (not_input : input ≢ Sink k).
       inl (record {
         no_a = no_a;
@@ -252,23 +257,23 @@ module _ (c : RawCircuit) (node : ℕ) (is_node : node < c.nodes) (old : State) 
     nonempty = λ e. let clash : None ≡ Some value = sym (ap (lookup (nat_eq (end_name (length c.ports) input))) e) ∙ fired_has input is_input (input_fires input) in cc;
     rising = fired_rise c.ports c.channels node (fires_from input) value;
     known = All-from_recursion (λ (p : ℕ × Value). p.0 < name_count c) step.pairs (all_named (length c.ports) (name_count c) value (filter (fires_from input) ends) (λ end at.
-        name_below c node (end_name (length c.ports) end) (name_of_end end (end_of c node end (stands_filter (fires_from input) ends end at).0))));
+        name_below c node (end_name (length c.ports) end) (name_of_end end (end_of c only node end (stands_filter (fires_from input) ends end at).0))));
   }
 
-  product_step : ProductStep c old step new
+  product_step : ProductStep c texts old step new
   product_step = record {
     is_step = is_step;
     was_state = was_state;
-    is_state = state_from_length c new (length-carried ends input value old ∙ state_length c old was_state);
+    is_state = state_from_length c only new (length-carried ends input value old ∙ state_length c only old was_state);
     channels = channel_moves;
-    nodes = λ n h. ⊎_elim (λ same. inr (subst (λ m. NodeStep c m step) (sym same) node_step)) (λ apart. inl (others_stay n apart)) (cases_eq n node);
+    nodes = λ n h. ⊎_elim (λ same. inr (subst (λ m. NodeStep c m (datum step)) (sym same) node_step)) (λ apart. inl (others_stay n apart)) (cases_eq n node);
   }
 
   fires_region : FiresOneRegion c step
   fires_region = record {
     root = OfNode node;
-    region = node_is_region c node is_node;
-    connected = connected_from_node c node (Fires step) (record {
+    region = node_is_region c only node is_node;
+    connected = connected_from_node c only node (fires_in (datum step)) (record {
       is_node = is_node;
       node_fires = node_fires;
       own = λ name fired. (let found = some_of (datum step name) fired in let end = fired_end name found.0 found.1 in subst (IsNameOf c node) end.3 (name_of_end end.0 end.1));
@@ -279,19 +284,19 @@ module _ (c : RawCircuit) (node : ℕ) (is_node : node < c.nodes) (old : State) 
     });
   }
 
-  uses_offers : UsesOffers c offers step
+  uses_offers : UsesOffers c offers (datum step)
   uses_offers p port w found e = let end = fired_end p w e in by end.0 end.1 end.2 end.3 end.4
     where
-      by : (end : End) → IsEndOf c node end → fires_from input end ≡ true → end_name (length c.ports) end ≡ p → w ≡ value → Contains offers (op_at port.way p w)
+      by : (end : End) → IsEndOf c node end → fires_from input end ≡ true → end_name (length c.ports) end ≡ p → w ≡ value → IsOffered offers p port w
       by (Put q) is fired named same =
           let at : port ≡ record { node = node; way = way.Put } = same_Some port (record { node = node; way = way.Put }) (sym found ∙ (ap (slice_get c.ports) (sym named) ∙ is)) in
           let given : Contains offers (op.Put q value) = subst (λ end. Gives old offers end value) (sym (fired_input input (Put q) refl fired)) can.given in
-          subst (λ (x : Port). Contains offers (op_at x.way p w)) (sym at) (subst (λ n. Contains offers (op.Put n w)) named (subst (λ v. Contains offers (op.Put q v)) (sym same) given))
+          record { operation = op.Put q value; offered = given; way = ap (λ (x : Port). x.way) (sym at); answers = (named, sym same) }
       by (Get q) is fired named same =
           let at : port ≡ record { node = node; way = way.Get } = same_Some port (record { node = node; way = way.Get }) (sym found ∙ (ap (slice_get c.ports) (sym named) ∙ is)) in
-          subst (λ (x : Port). Contains offers (op_at x.way p w)) (sym at) (subst (λ n. Contains offers (op.Get n)) named (can.taken (Get q) (among (Get q) is) refl))
+          record { operation = op.Get q; offered = can.taken (Get q) (among (Get q) is) refl; way = ap (λ (x : Port). x.way) (sym at); answers = named }
       by (Source k) is fired named same = absurd (omega (arith, slice_get_within c.ports p port found))
       by (Sink k) is fired named same = absurd (omega (arith, slice_get_within c.ports p port found))
 
-  pub firing_is_lawful : IsLawfulFiring c old (record { pairs = fired_pairs (length c.ports) (ends_at c.ports c.channels node) input value }) (carried (ends_at c.ports c.channels node) input value old) offers
+  pub firing_is_lawful : IsLawfulFiring c texts old (record { pairs = fired_pairs (length c.ports) (ends_at c.ports c.channels node) input value }) (carried (ends_at c.ports c.channels node) input value old) offers
   firing_is_lawful = record { product = product_step; region = fires_region; offered = uses_offers }

@@ -1,5 +1,5 @@
 -- The port that fires, and the offer that is answered there.
-use Rattle.std.proofs.Common.{◌≡◌, ℕ, ◌<◌, List, [], ◌∷◌, length, slice_get, Option, Some, None, Contains, refl, sym, ap, ◌∙◌, subst, ⊎_elim, Bool, true, false, cond, arith}
+use Rattle.std.proofs.Common.{◌≡◌, ℕ, ◌<◌, List, [], ◌∷◌, length, slice_get, Option, Some, None, Contains, IsTrue, refl, sym, ap, ◌∙◌, subst, ⊎_elim, Bool, true, false, cond, arith}
 use Rattle.std.specs.Option.{option_and_then}
 use Rattle.std.proofs.lemmas.Bool.{cases_eq, cond-true}
 use Rattle.std.proofs.lemmas.Option.{same_Some, option_and_then_some}
@@ -10,8 +10,8 @@ use Rattle.reo_value.specs.declared.op.Way.{Way}
 use Rattle.reo_value.specs.declared.op.Way.TheVariants as way
 use Rattle.reo_net.specs.declared.circuit.RawCircuit.{RawCircuit}
 use Rattle.reo_net.specs.declared.circuit.Step.{Step}
-use Rattle.reo_net.specs.Steps.{State, IsState, datum, Fires}
-use Rattle.reo_net.specs.Checks.{IsChecked}
+use Rattle.reo_net.specs.Steps.{State, IsState, datum, fires_in}
+use Rattle.reo_net.specs.Checks.{IsChecked, IsFifoOnly}
 use Rattle.reo_trace.specs.declared.report.Called.{Called}
 use Rattle.reo_value.specs.Op.{port_of}
 use Rattle.reo_trace.specs.Lawful.{next_ops, HasItsValue}
@@ -51,7 +51,7 @@ some_port input (first ∷ ends) end p at fires is =
     by None later = later
     by (Some q) later = (q, refl)
 
-module _ (c : RawCircuit) (checked : IsChecked c) (scripts : List (List Op)) (owners : List (Option ℕ)) (calls : List (List Called)) (owned : AreOwners scripts owners) (node : ℕ) (is_node : node < c.nodes) (old : State) (was_state : IsState c old) (input : End) (value : Value) (can : CanFire old (next_ops scripts calls) (ends_at c.ports c.channels node) input value) where
+module _ (c : RawCircuit) (texts : List (List ℕ)) (only : IsFifoOnly c) (checked : IsChecked c) (scripts : List (List Op)) (owners : List (Option ℕ)) (calls : List (List Called)) (owned : AreOwners scripts owners) (node : ℕ) (is_node : node < c.nodes) (old : State) (was_state : IsState c old) (input : End) (value : Value) (can : CanFire old (next_ops scripts calls) (ends_at c.ports c.channels node) input value) where
   abbrev ends : List End
   ends = ends_at c.ports c.channels node
 
@@ -87,17 +87,17 @@ module _ (c : RawCircuit) (checked : IsChecked c) (scripts : List (List Op)) (ow
       (record { component = next.0; op = op.Put q value }, ap (offer_at scripts owners calls) (sym same) ∙ offer_found scripts owners calls next.0 (op.Put q value) owned next.1, refl)
   offer_here (Get q) p is fires at =
       let same = same_Some q p at in
-      let stands = end_stands c node (Get q) is in
+      let stands = end_stands c only node (Get q) is in
       let next = next_ops-only scripts calls (op.Get q) (can.taken (Get q) (record { place = stands.place; found = stands.found }) refl) in
       (record { component = next.0; op = op.Get q }, ap (offer_at scripts owners calls) (sym same) ∙ offer_found scripts owners calls next.0 (op.Get q) owned next.1, tt)
   offer_here (Source k) p is fires at = cc
   offer_here (Sink k) p is fires at = cc
 
   -- a port that fires is that of an end
-  port_fires : (port : ℕ) → port < length c.ports → Fires step port → (end : End) × IsEndOf c node end × (fires_from input end ≡ true) × (port_at end ≡ Some port)
+  port_fires : (port : ℕ) → port < length c.ports → IsTrue (fires_in (datum step) port) → (end : End) × IsEndOf c node end × (fires_from input end ≡ true) × (port_at end ≡ Some port)
   port_fires port within fires =
       let found = some_of (datum step port) fires in
-      let end = fired_end c node is_node old was_state (next_ops scripts calls) input value can port found.0 found.1 in
+      let end = fired_end c texts only node is_node old was_state (next_ops scripts calls) input value can port found.0 found.1 in
       (end.0, end.1, end.2, by end.0 end.3)
     where
       by : (end : End) → end_name (length c.ports) end ≡ port → port_at end ≡ Some port
@@ -109,27 +109,27 @@ module _ (c : RawCircuit) (checked : IsChecked c) (scripts : List (List Op)) (ow
   abbrev offer : Option Offer
   offer = option_and_then (offer_at scripts owners calls) (fired_port input ends)
 
-  quiet : offer ≡ None → (port : ℕ) → port < length c.ports → Fires step port → ⊥
+  quiet : offer ≡ None → (port : ℕ) → port < length c.ports → IsTrue (fires_in (datum step) port) → ⊥
   quiet none port within fires =
       let end = port_fires port within fires in
-      let some = some_port input ends end.0 port (end_stands c node end.0 end.1) end.2 end.3 in
+      let some = some_port input ends end.0 port (end_stands c only node end.0 end.1) end.2 end.3 in
       let at = port_stands input ends some.0 some.1 in
-      let here = offer_here at.0 some.0 (end_of c node at.0 at.1) at.2 at.3 in
+      let here = offer_here at.0 some.0 (end_of c only node at.0 at.1) at.2 at.3 in
       let clash : None ≡ Some here.0 = sym none ∙ (ap (option_and_then (offer_at scripts owners calls)) some.1 ∙ here.1) in
       cc
 
-  answers : (o : Offer) → offer ≡ Some o → IsNextOf scripts calls o.component o.op × (datum step (port_of o.op) ≡ Some value) × HasItsValue o.op value × ((port : ℕ) → port < length c.ports → Fires step port → port ≡ port_of o.op)
+  answers : (o : Offer) → offer ≡ Some o → IsNextOf scripts calls o.component o.op × (datum step (port_of o.op) ≡ Some value) × HasItsValue o.op value × ((port : ℕ) → port < length c.ports → IsTrue (fires_in (datum step) port) → port ≡ port_of o.op)
   answers o is_offer =
       option_and_then_some (offer_at scripts owners calls) (fired_port input ends) o is_offer
       (λ p fired at.
       let end = port_stands input ends p fired in
-      let is = end_of c node end.0 end.1 in
+      let is = end_of c only node end.0 end.1 in
       let port = port_end end.0 p is end.3 in
       let known = offer_stands scripts owners calls p o at in
       let here = offer_here end.0 p is end.2 end.3 in
       let same : here.0 ≡ o = same_Some here.0 o (sym here.1 ∙ at) in (
         known.0,
-        ap (datum step) (known.1 ∙ sym port.named) ∙ fired_has c node is_node old was_state (next_ops scripts calls) input value can end.0 is end.2,
+        ap (datum step) (known.1 ∙ sym port.named) ∙ fired_has c texts only node is_node old was_state (next_ops scripts calls) input value can end.0 is end.2,
         subst (λ (x : Offer). HasItsValue x.op value) same here.2,
         λ q within fires.
             (let other = port_fires q within fires in
@@ -137,7 +137,7 @@ module _ (c : RawCircuit) (checked : IsChecked c) (scripts : List (List Op)) (ow
             one_port q p at_q.way port.way at_q.port port.port ∙ sym known.1),
       ))
 
-  pub fired_lawfully : Fired c scripts calls old (record { pairs = fired_pairs (length c.ports) (ends_at c.ports c.channels node) input value }) (carried (ends_at c.ports c.channels node) input value old) (option_and_then (offer_at scripts owners calls) (fired_port input (ends_at c.ports c.channels node))) value
+  pub fired_lawfully : Fired c texts scripts calls old (record { pairs = fired_pairs (length c.ports) (ends_at c.ports c.channels node) input value }) (carried (ends_at c.ports c.channels node) input value old) (option_and_then (offer_at scripts owners calls) (fired_port input (ends_at c.ports c.channels node))) value
   fired_lawfully =
-      let law = firing_is_lawful c node is_node old was_state (next_ops scripts calls) input value can in
+      let law = firing_is_lawful c texts only node is_node old was_state (next_ops scripts calls) input value can in
       record { product = law.product; region = law.region; quiet = quiet; answers = answers }

@@ -1,5 +1,5 @@
 -- One firing keeps what was done lawful.
-use Rattle.std.proofs.Common.{◌≡◌, ◌≢◌, ℕ, suc, ◌+◌, ◌<◌, ◌≤◌, ◌⊎◌, List, [], ◌∷◌, ◌++◌, length, slice_get, get_or, take, map, Option, Some, None, refl, sym, ap, ◌∙◌, subst, inl, inr, ⊎_elim, arith, length-set, length-append}
+use Rattle.std.proofs.Common.{◌≡◌, ◌≢◌, ℕ, suc, ◌+◌, ◌<◌, ◌≤◌, ◌⊎◌, List, [], ◌∷◌, ◌++◌, length, slice_get, get_or, take, map, Option, Some, None, IsTrue, refl, sym, ap, ◌∙◌, subst, inl, inr, ⊎_elim, arith, length-set, length-append}
 use Prim.Native.Nat.{zero}
 use Rattle.std.specs.List.Sorted.{IsStrictlyIncreasing}
 use Rattle.std.specs.Option.{option_and_then}
@@ -11,7 +11,7 @@ use Rattle.reo_value.specs.declared.value.Value.{Value}
 use Rattle.reo_value.specs.declared.op.Op.{Op}
 use Rattle.reo_net.specs.declared.circuit.RawCircuit.{RawCircuit}
 use Rattle.reo_net.specs.declared.circuit.Step.{Step}
-use Rattle.reo_net.specs.Steps.{State, ProductStep, datum, Fires}
+use Rattle.reo_net.specs.Steps.{State, ProductStep, datum, fires_in}
 use Rattle.reo_net.specs.Runs.{Run, initial_state}
 use Rattle.reo_trace.specs.declared.report.Called.{Called}
 use Rattle.reo_value.specs.Op.{port_of}
@@ -23,9 +23,9 @@ use Rattle.reo_tool.proofs.OfferLemmas.{IsNextOf}
 use Rattle.reo_tool.proofs.Places.{slice_get-push_old, slice_get-push_last, slice_get-push_cases, slice_get-set_same, slice_get-set_other}
 
 -- a run and one step more
-run-push : (c : RawCircuit) (from mid new : State) (steps : List Step) (step : Step) → Run c from steps mid → ProductStep c mid step new → Run c from (steps ++ step ∷ []) new
-run-push c from mid new [] step r s = (new, subst (λ q. ProductStep c q step new) r s, refl)
-run-push c from mid new (first ∷ steps) step r s = (r.0, r.1, run-push c r.0 mid new steps step r.2 s)
+run-push : (c : RawCircuit) (texts : List (List ℕ)) (from mid new : State) (steps : List Step) (step : Step) → Run c texts from steps mid → ProductStep c texts mid step new → Run c texts from (steps ++ step ∷ []) new
+run-push c texts from mid new [] step r s = (new, subst (λ q. ProductStep c texts q step new) r s, refl)
+run-push c texts from mid new (first ∷ steps) step r s = (r.0, r.1, run-push c texts r.0 mid new steps step r.2 s)
 
 -- a number above all others
 rises-push : (xs : List ℕ) (n : ℕ) → IsStrictlyIncreasing xs → ((i x : ℕ) → slice_get xs i ≡ Some x → x < n) → IsStrictlyIncreasing (xs ++ n ∷ [])
@@ -93,13 +93,13 @@ module _ (calls : List (List Called)) (offer : Offer) (value : Value) (number : 
       (cases_eq k offer.component)
 
 -- what is known of a firing: it is a lawful step, and of its port, if it has one, it answers the offer
-pub record Fired (c : RawCircuit) (scripts : List (List Op)) (calls : List (List Called)) (old : State) (step : Step) (new : State) (offer : Option Offer) (value : Value) : Type 0 where
-  pub product : ProductStep c old step new
+pub record Fired (c : RawCircuit) (texts : List (List ℕ)) (scripts : List (List Op)) (calls : List (List Called)) (old : State) (step : Step) (new : State) (offer : Option Offer) (value : Value) : Type 0 where
+  pub product : ProductStep c texts old step new
   pub region : FiresOneRegion c step
-  pub quiet : offer ≡ None → (port : ℕ) → port < length c.ports → Fires step port → ⊥
-  pub answers : (o : Offer) → offer ≡ Some o → IsNextOf scripts calls o.component o.op × (datum step (port_of o.op) ≡ Some value) × HasItsValue o.op value × ((port : ℕ) → port < length c.ports → Fires step port → port ≡ port_of o.op)
+  pub quiet : offer ≡ None → (port : ℕ) → port < length c.ports → IsTrue (fires_in (datum step) port) → ⊥
+  pub answers : (o : Offer) → offer ≡ Some o → IsNextOf scripts calls o.component o.op × (datum step (port_of o.op) ≡ Some value) × HasItsValue o.op value × ((port : ℕ) → port < length c.ports → IsTrue (fires_in (datum step) port) → port ≡ port_of o.op)
 
-module _ (c : RawCircuit) (scripts : List (List Op)) (old new : State) (steps : List Step) (step : Step) (calls : List (List Called)) (value : Value) (so_far : IsUnderWay c scripts old steps calls) where
+module _ (c : RawCircuit) (texts : List (List ℕ)) (scripts : List (List Op)) (old new : State) (steps : List Step) (step : Step) (calls : List (List Called)) (value : Value) (so_far : IsUnderWay c texts scripts old steps calls) where
   abbrev more : List Step
   more = steps ++ step ∷ []
 
@@ -115,10 +115,10 @@ module _ (c : RawCircuit) (scripts : List (List Op)) (old new : State) (steps : 
   numbered k i call e = let s = so_far.placed k i call e in slice_get_within steps call.number s.step s.found
 
   -- the firing has no port
-  no_answer : Fired c scripts calls old step new None value → IsUnderWay c scripts new more calls
+  no_answer : Fired c texts scripts calls old step new None value → IsUnderWay c texts scripts new more calls
   no_answer fired = record {
     is_state = fired.product.is_state;
-    run = run-push c (initial_state c) old new steps step so_far.run fired.product;
+    run = run-push c texts (initial_state c) old new steps step so_far.run fired.product;
     firings = All-append (FiresOneRegion c) steps (step ∷ []) so_far.firings (All-cons (FiresOneRegion c) step [] fired.region (All-nil (FiresOneRegion c)));
     components = so_far.components;
     in_order = so_far.in_order;
@@ -126,12 +126,12 @@ module _ (c : RawCircuit) (scripts : List (List Op)) (old new : State) (steps : 
     once = λ number at port found within fires.
         ⊎_elim
         (λ earlier. so_far.once number at port earlier within fires)
-        (λ last. absurd (fired.quiet refl port within (subst (λ (s : Step). Fires s port) (sym last.1) fires)))
+        (λ last. absurd (fired.quiet refl port within (subst (λ (s : Step). IsTrue (fires_in (datum s) port)) (sym last.1) fires)))
         (slice_get-push_cases steps step number at found);
   }
 
   -- the firing answers an offer
-  module _ (offer : Offer) (fired : Fired c scripts calls old step new (Some offer) value) where
+  module _ (offer : Offer) (fired : Fired c texts scripts calls old step new (Some offer) value) where
     next : IsNextOf scripts calls offer.component offer.op
     next = (fired.answers offer refl).0
 
@@ -210,10 +210,10 @@ module _ (c : RawCircuit) (scripts : List (List Op)) (old new : State) (steps : 
           (call-cases calls offer value (length steps) next.own next.of_calls k i call.call call.found);
     }
 
-    with_answer : IsUnderWay c scripts new more after
+    with_answer : IsUnderWay c texts scripts new more after
     with_answer = record {
       is_state = fired.product.is_state;
-      run = run-push c (initial_state c) old new steps step so_far.run fired.product;
+      run = run-push c texts (initial_state c) old new steps step so_far.run fired.product;
       firings = All-append (FiresOneRegion c) steps (step ∷ []) so_far.firings (All-cons (FiresOneRegion c) step [] fired.region (All-nil (FiresOneRegion c)));
       components = length-set calls offer.component (get_or calls offer.component [] ++ added ∷ []) ∙ so_far.components;
       in_order = in_order_after;
@@ -222,11 +222,11 @@ module _ (c : RawCircuit) (scripts : List (List Op)) (old new : State) (steps : 
           ⊎_elim
           (λ earlier. once_earlier number port (slice_get_within steps number at earlier) (so_far.once number at port earlier within fires))
           (λ last.
-          let here = (fired.answers offer refl).3 port within (subst (λ (s : Step). Fires s port) (sym last.1) fires) in
+          let here = (fired.answers offer refl).3 port within (subst (λ (s : Step). IsTrue (fires_in (datum s) port)) (sym last.1) fires) in
           subst (λ n. IsAnsweredOnce after n port) (sym last.0) (once_last port here))
           (slice_get-push_cases steps step number at found);
     }
 
-  pub one_more : (offer : Option Offer) → Fired c scripts calls old step new offer value → IsUnderWay c scripts new (steps ++ step ∷ []) (called offer value (length steps) calls)
+  pub one_more : (offer : Option Offer) → Fired c texts scripts calls old step new offer value → IsUnderWay c texts scripts new (steps ++ step ∷ []) (called offer value (length steps) calls)
   one_more None fired = no_answer fired
   one_more (Some offer) fired = with_answer offer fired

@@ -1,15 +1,18 @@
 -- What a call of the program may answer, and what it has read and written then.
-use Rattle.std.specs.Prelude.{◌≡◌, ℕ, ◌+◌, ◌≤◌, ◌⊎◌, List, [], ◌∷◌, length, map, Some, codes}
+use Rattle.std.specs.Prelude.{◌≡◌, ℕ, ◌+◌, ◌≤◌, ◌⊎◌, List, [], ◌∷◌, length, map, slice_get, Some, false, codes}
 use Rattle.std.specs.declared.option.Option.{Option}
 use Rattle.std.specs.Borrow.{Bor}
 use Rattle.reo_base.specs.declared.source.Source.{Ghosts as SourceOf}
 use Rattle.reo_base.specs.declared.sink.Sink.{Ghosts as SinkOf}
 use Rattle.reo_base.specs.Faults.{Rose}
 use Rattle.reo_base.specs.Streams.{IsReadWhole, HasMoreThan, LosesFirst, IsExtended}
-use Rattle.reo_net.specs.Checks.{IsChecked}
+use Rattle.reo_graph.specs.Paths.{IsLeast}
+use Rattle.reo_net.specs.Kind.{is_fifo}
+use Rattle.reo_net.specs.Checks.{IsChecked, IsFifoOnly}
 use Rattle.reo_net.specs.Refusals.{Refuses}
 use Rattle.reo_net.specs.declared.net.CheckRefusal.{CheckRefusal}
 use Rattle.reo_net.specs.declared.net.CheckRefusal.TheVariants as refusal
+use Rattle.reo_net.specs.declared.circuit.Channel.{Channel}
 use Rattle.reo_net.specs.declared.circuit.RawCircuit.{RawCircuit}
 use Rattle.reo_text.specs.Parts.{DocumentData, circuit_of}
 use Rattle.reo_text.specs.Plain.{Spells, IsRefusedAt}
@@ -19,7 +22,7 @@ use Rattle.reo_trace.specs.ReportText.{report_text}
 use Rattle.reo_tool.specs.declared.status.Status.{Status}
 use Rattle.reo_tool.specs.declared.status.Status.TheVariants.{Done, Stuck, Limit, Refused, Usage, ReadFault, WriteFault, Memory}
 use Rattle.reo_tool.specs.Status.{status_of}
-use Rattle.reo_tool.specs.FaultText.{usage_text, read_failed_text, too_long_text, out_of_memory_text, line_text, check_text}
+use Rattle.reo_tool.specs.FaultText.{usage_text, read_failed_text, too_long_text, out_of_memory_text, line_text, channel_text, check_text}
 
 -- the words are `run --plain`
 abbrev pub IsRunPlain : List (Bor (List ℕ)) → Type 0
@@ -53,15 +56,22 @@ streams s k e source out err = record {
   err_faults = e.faults err;
 }
 
--- a document's circuit passes the checks
-abbrev pub IsAccepted : DocumentData → Type 0
-IsAccepted document = IsChecked (circuit_of document)
+-- a channel of this number is no FIFO1
+pub record IsOtherChannel (channels : List Channel) (number : ℕ) : Type 0 where
+  pub channel : Channel
+  pub found : slice_get channels number ≡ Some channel
+  pub other : is_fifo channel.kind ≡ false
+
+-- a document's circuit passes the checks, and has FIFO1s alone, which are what can be run so far
+pub record IsAccepted (document : DocumentData) : Type 0 where
+  pub checked : IsChecked (circuit_of document)
+  pub only : IsFifoOnly (circuit_of document)
 
 -- The report of a document: it is lawful for the document and the limit, with no step past the limit, its whole text was
 -- written to the one sink, nothing to the other, and the status is its ending.
 pub record IsReported (document : DocumentData) (before after : Streams) (status : Status) : Type 0 where
   pub report : Report
-  pub lawful : IsLawfulReport (circuit_of document) document.scripts most_steps report
+  pub lawful : IsLawfulReport (circuit_of document) document.texts document.scripts most_steps report
   pub within : length report.steps ≤ most_steps
   pub written : IsExtended before.out after.out (report_text (circuit_of document) document.nodes document.texts document.people report)
   pub quiet : after.err ≡ before.err
@@ -84,6 +94,8 @@ pub data RefusedFor (bytes text : List ℕ) : Type 0 where
   ForLine : (line : ℕ) → IsRefusedAt bytes line → text ≡ line_text line → RefusedFor bytes text
   -- the checks refuse the circuit of the document that they spell
   ForCircuit : (document : DocumentData) (refused : CheckRefusal) → Spells bytes document → Refuses (circuit_of document) refused → (refused ≡ refusal.NoMemory → ⊥) → text ≡ check_text document.nodes refused → RefusedFor bytes text
+  -- the checks accept that circuit, but it has a channel that is no FIFO1; the least is told, by its number from 1
+  ForChannel : (document : DocumentData) (number : ℕ) → Spells bytes document → IsChecked (circuit_of document) → IsLeast (IsOtherChannel (circuit_of document).channels) (Some number) → text ≡ channel_text (number + 1) → RefusedFor bytes text
 
 -- The source was read to its end, its bytes are refused, and the one text for that was written.
 pub record IsRefusedCall (words : List (Bor (List ℕ))) (before after : Streams) : Type 0 where

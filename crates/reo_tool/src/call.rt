@@ -1,21 +1,24 @@
 //! The call that does all that the program does.
-ghost use Rattle.std.specs.Prelude.{◌≡◌, ◌≤◌, ◌⊎◌, ◌↔◌, ℕ, List, length, IsTrue, IfOk, IfErr, OnOk};
+ghost use Rattle.std.specs.Prelude.{◌≡◌, ◌+◌, ◌<◌, ◌^◌, ◌≤◌, ◌⊎◌, ◌↔◌, ℕ, List, length, IsTrue, IfOk, IfErr, OnOk};
 ghost use Rattle.std.specs.declared.option.Option.{Option};
 ghost use Rattle.std.specs.Borrow.{Bor};
 ghost use Rattle.reo_base.specs.Streams.{IsReadWhole};
-ghost use Rattle.reo_net.specs.Checks.{IsChecked};
+ghost use Rattle.reo_graph.specs.Paths.{IsLeast};
+ghost use Rattle.reo_net.specs.Checks.{IsChecked, IsFifoOnly};
 ghost use Rattle.reo_net.specs.Refusals.{Refuses};
 ghost use Rattle.reo_text.specs.Parts.{circuit_of};
 ghost use Rattle.reo_trace.specs.Lawful.{IsLawfulReport};
 ghost use Rattle.reo_tool.specs.Status.{status_of};
-ghost use Rattle.reo_tool.specs.FaultText.{line_text, check_text, out_of_memory_text};
-ghost use Rattle.reo_tool.specs.Call.{IsRunPlain, streams, most_steps, HasCauseFor, most_bytes, WrittenOut, Told, ToldOrMemory, KeepsItsPromise, IsRefusable, IsOverlong, IsOrAbove};
+ghost use Rattle.reo_tool.specs.FaultText.{line_text, channel_text, check_text, out_of_memory_text};
+ghost use Rattle.reo_tool.specs.Call.{IsRunPlain, IsOtherChannel, streams, most_steps, HasCauseFor, most_bytes, WrittenOut, Told, ToldOrMemory, KeepsItsPromise, IsRefusable, IsOverlong, IsOrAbove};
 
-use crate::fault_text::{OUT_OF_MEMORY, READ_FAILED, TOO_LONG, USAGE, check_text, line_text};
+use crate::fault_text::{
+    OUT_OF_MEMORY, READ_FAILED, TOO_LONG, USAGE, channel_text, check_text, line_text,
+};
 use crate::schedule::run;
 use crate::status::{Status, unless_fault};
 use reo_base::{ReadRefusal, Sink, Source, read_all, write_whole};
-use reo_net::{CheckRefusal, Net, check};
+use reo_net::{Channel, CheckRefusal, Net, check};
 use reo_text::{Document, TextRefusal, read_document};
 use reo_trace::{Report, WriteRefusal, write_report};
 use reo_value::Lexicon;
@@ -49,11 +52,12 @@ pub fn checked(alloc: Global, document: &Document) -> Result<Net, CheckRefusal>
 
 /// Runs a document's scripts on its net.
 fn report_of(alloc: Global, document: &Document, net: &Net) -> Result<Report, AllocError>
-    requires { net.now ≡ circuit_of document.now }
-    ensures lawful { IfOk result (IsLawfulReport (circuit_of document.now) document.now.scripts most_steps) }
+    requires net { net.now ≡ circuit_of document.now }
+    requires only { IsFifoOnly net.now }
+    ensures lawful { IfOk result (IsLawfulReport (circuit_of document.now) document.now.texts document.now.scripts most_steps) }
     ensures within { IfOk result (λ report. length report.steps ≤ most_steps) }
 {
-    run(alloc, net, document.scripts(), MOST_STEPS)
+    run(alloc, net, document.texts(), document.scripts(), MOST_STEPS)
 }
 
 /// Writes a line and gives the status, or the status of a failed write.
@@ -109,6 +113,24 @@ fn tell_circuit<E: Sink>(
     }
 }
 
+/// The least channel that is no FIFO1.
+fn other_channel(channels: &[Channel]) -> Option<usize>
+    ensures { IsLeast (IsOtherChannel channels.now) result }
+{
+    channels.iter().position(|channel| !channel.kind.is_fifo())
+}
+
+/// Tells of a channel that can not be run yet, by its number from 1.
+fn tell_channel<E: Sink>(alloc: Global, err: &mut E, number: usize) -> Status
+    requires { number < 2 ^ 32 }
+    ensures told { ToldOrMemory Status.Refused (E.written err.old) (E.written err.new) (E.faults err.old) (E.faults err.new) (channel_text (number + 1)) result }
+{
+    match channel_text(alloc, number + 1) {
+        Ok(text) => tell(err, text.as_bytes(), Status::Refused),
+        Err(_) => tell_memory(err),
+    }
+}
+
 /// Writes the report of a document, and gives the status of its ending.
 fn write_out<K: Sink, E: Sink>(
     alloc: Global,
@@ -153,6 +175,9 @@ fn run_document<K: Sink, E: Sink>(alloc: Global, bytes: &[u8], out: &mut K, err:
         Ok(net) => net,
         Err(refusal) => return tell_circuit(alloc, err, document.nodes(), refusal),
     };
+    if let Some(number) = other_channel(net.channels()) {
+        return tell_channel(alloc, err, number);
+    }
     match report_of(alloc, &document, &net) {
         Ok(report) => write_out(alloc, out, err, &document, &net, &report),
         Err(_) => tell_memory(err),

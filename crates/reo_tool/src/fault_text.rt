@@ -1,7 +1,7 @@
 //! The lines that are written where there is no report.
 ghost use Rattle.std.specs.Prelude.{◌≡◌, IfOk};
 ghost use Rattle.std.specs.String.{string_bytes};
-ghost use Rattle.reo_tool.specs.FaultText.{line_text, check_text};
+ghost use Rattle.reo_tool.specs.FaultText.{line_text, channel_text, check_text};
 
 use reo_net::CheckRefusal;
 use reo_value::Lexicon;
@@ -24,6 +24,13 @@ pub fn line_text(alloc: Global, line: u32) -> Result<String, AllocError>
     format!(in alloc; "reo: line {line}: not built\n")
 }
 
+/// A channel, by its number from 1, that can not be run yet.
+pub fn channel_text(alloc: Global, number: usize) -> Result<String, AllocError>
+    ensures { IfOk result (λ text. string_bytes text ≡ channel_text number) }
+{
+    format!(in alloc; "reo: channel {number}: not built\n")
+}
+
 /// A circuit that is refused, with the names of its nodes.
 pub fn check_text(
     alloc: Global,
@@ -44,6 +51,10 @@ pub fn check_text(
         CheckRefusal::MixedPort(node) => {
             let name = nodes.text_or_empty(node);
             format!(in alloc; "reo: node {name}: mixed node as port\n")
+        }
+        CheckRefusal::SyncLoop(node) => {
+            let name = nodes.text_or_empty(node);
+            format!(in alloc; "reo: node {name}: synchronous loop\n")
         }
         CheckRefusal::NoMemory => String::from_str(alloc, "reo: out of memory\n"),
     }

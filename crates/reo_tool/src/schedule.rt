@@ -1,7 +1,9 @@
 //! The plain schedule: one thread, the nodes in turn.
 ghost use Rattle.std.specs.Prelude.{◌≡◌, ℕ, suc, ◌+◌, ◌<◌, ◌≤◌, ◌^◌, [], length, replicate, flat_map, Some, None, IfSome, IfNone, IfOk, OnOk};
 ghost use Rattle.std.specs.Option.{option_and_then};
-ghost use Rattle.reo_net.specs.Runs.{first_content, IsEnabled};
+ghost use Rattle.reo_net.specs.Kind.{first_content};
+ghost use Rattle.reo_net.specs.Runs.{IsEnabled};
+ghost use Rattle.reo_net.specs.Checks.{IsFifoOnly};
 ghost use Rattle.reo_trace.specs.Lawful.{next_ops, IsEndingOf, IsLawfulReport};
 ghost use Rattle.reo_tool.specs.Ends.{ends_in};
 ghost use Rattle.reo_tool.specs.Offers.{offer_in};
@@ -20,7 +22,7 @@ use crate::owners::owners;
 use crate::progress::Progress;
 use reo_net::{Channel, Kind, Net};
 use reo_trace::{Called, Ending, Report};
-use reo_value::{Op, Value};
+use reo_value::{Lexicon, Op, Value};
 use sqlite_items::Items;
 use std::alloc::{AllocError, Global};
 
@@ -82,6 +84,7 @@ fn next_firing(
 #[derive(Clone, Copy)]
 struct Board<'a> {
     net: &'a Net,
+    texts: &'a Lexicon,
     scripts: &'a [Items<Op>],
     junctions: &'a [Items<End>],
     owners: &'a [Option<u32>],
@@ -103,7 +106,7 @@ fn turn(
     ensures one_step { IfOk result (λ next. IfSome next (λ _. length progress.new.steps.items ≡ suc (length progress.old.steps.items))) }
     ensures same_steps { IfOk result (λ next. IfNone next (progress.new.steps.items ≡ progress.old.steps.items)) }
     ensures same_calls { IfOk result (λ next. IfNone next (progress.new.calls.items ≡ progress.old.calls.items)) }
-    ensures stuck { IfOk result (λ next. IfNone next (IsEnabled board.entry.net.now progress.new.cells.items (next_ops board.entry.scripts.now progress.new.calls.items) → ⊥)) }
+    ensures stuck { IfOk result (λ next. IfNone next (IsEnabled board.entry.net.now board.entry.texts.now progress.new.cells.items (next_ops board.entry.scripts.now progress.new.calls.items) → ⊥)) }
 {
     let nodes = board.net.nodes();
     let offers = Offers {
@@ -139,8 +142,9 @@ fn first_cells(alloc: Global, channels: &[Channel]) -> Result<Vec<Option<Value>>
 {
     let mut cells = Vec::with_capacity(alloc, channels.len())?;
     for channel in channels {
-        let Kind::Fifo(first) = channel.kind;
-        cells.push(first)?;
+        if let Kind::Fifo(first) = &channel.kind {
+            cells.push(*first)?;
+        }
     }
     Ok(cells)
 }
@@ -168,7 +172,7 @@ fn run_on(
     requires first { length progress.old.steps.items ≡ 0 }
     ensures under_way { OnOk result (GoesOn board.entry progress.new) }
     ensures within { OnOk result (length progress.new.steps.items ≤ limit) }
-    ensures ended { IfOk result (IsEndingOf board.entry.net.now board.entry.scripts.now progress.new.calls.items limit (length progress.new.steps.items) progress.new.cells.items) }
+    ensures ended { IfOk result (IsEndingOf board.entry.net.now board.entry.texts.now board.entry.scripts.now progress.new.calls.items limit (length progress.new.steps.items) progress.new.cells.items) }
 {
     let mut from = 0;
     for _turn in 0..limit {
@@ -187,18 +191,20 @@ fn run_on(
     }
 }
 
-/// Runs the components' scripts on the circuit, on one thread. The nodes fire in turn: each turn goes to the first that
+/// Runs the components' scripts on a circuit of FIFO1s, on one thread. The nodes fire in turn: each turn goes to the first that
 /// can fire, in cyclic order from the one behind the last that fired, and it fires by its first name that has a datum.
 pub fn run(
     alloc: Global,
     net: &Net,
+    texts: &Lexicon,
     scripts: &[Items<Op>],
     limit: u64,
 ) -> Result<Report, AllocError>
+    requires only { IsFifoOnly net.now }
     requires fit { ScriptsFit net.now scripts.now }
     requires few { length scripts.now < 2 ^ 32 }
     requires limit { 1 ≤ limit }
-    ensures lawful { IfOk result (IsLawfulReport net.now scripts.now limit) }
+    ensures lawful { IfOk result (IsLawfulReport net.now texts.now scripts.now limit) }
     ensures within { IfOk result (λ report. length report.steps ≤ limit) }
 {
     let junctions = junctions(alloc, net.nodes(), net.ports(), net.channels())?;
@@ -210,6 +216,7 @@ pub fn run(
     };
     let board = Board {
         net,
+        texts,
         scripts,
         junctions: junctions.as_slice(),
         owners: owners.as_slice(),

@@ -1,5 +1,5 @@
 -- What it means that a report is lawful for a circuit, the components' scripts and a limit on steps.
-use Rattle.std.specs.Prelude.{◌≡◌, ℕ, ◌+◌, ◌<◌, ◌≤◌, ◌↔◌, List, [], ◌∷◌, ◌++◌, length, slice_get, take, map, All, Option, Some}
+use Rattle.std.specs.Prelude.{◌≡◌, ℕ, ◌+◌, ◌<◌, ◌≤◌, ◌↔◌, List, [], ◌∷◌, ◌++◌, length, slice_get, take, map, All, Option, Some, IsTrue}
 use Rattle.std.specs.Option.{option_to_list, option_and_then}
 use Rattle.std.specs.List.Sorted.{IsStrictlyIncreasing}
 use Rattle.reo_value.specs.declared.value.Value.{Value}
@@ -8,7 +8,7 @@ use Rattle.reo_value.specs.declared.op.Op.TheVariants.{Put, Get}
 use Rattle.reo_value.specs.Op.{port_of}
 use Rattle.reo_net.specs.declared.circuit.RawCircuit.{RawCircuit}
 use Rattle.reo_net.specs.declared.circuit.Step.{Step}
-use Rattle.reo_net.specs.Steps.{State, datum, Fires}
+use Rattle.reo_net.specs.Steps.{State, datum, fires_in}
 use Rattle.reo_net.specs.Runs.{Run, IsEnabled, initial_state}
 use Rattle.reo_net.specs.Regions.{Automaton, IsRegion, AreRegions, IsConnectedFiring}
 use Rattle.reo_trace.specs.declared.report.Called.{Called}
@@ -25,7 +25,7 @@ HasItsValue (Get p) value = Unit {0}
 pub record FiresOneRegion (c : RawCircuit) (step : Step) : Type 0 where
   pub root : Automaton
   pub region : IsRegion c root
-  pub connected : IsConnectedFiring c root (Fires step)
+  pub connected : IsConnectedFiring c root (fires_in (datum step))
 
 -- the calls are of the operations at the front of the script, one after the other, each in a later step
 pub record AreFirstOf (script : List Op) (calls : List Called) : Type 0 where
@@ -68,15 +68,16 @@ next_ops (script ∷ scripts) [] = []
 next_ops (script ∷ scripts) (own ∷ calls) = option_to_list (slice_get script (length own)) ++ next_ops scripts calls
 
 -- how a run has ended after so many steps, in this state: each ending exactly in its case
-pub record IsEndingOf (c : RawCircuit) (scripts : List (List Op)) (calls : List (List Called)) (limit steps : ℕ) (final : State) (ending : Ending) : Type 0 where
+pub record IsEndingOf (c : RawCircuit) (texts : List (List ℕ)) (scripts : List (List Op)) (calls : List (List Called)) (limit steps : ℕ) (final : State) (ending : Ending) : Type 0 where
   pub done : (ending ≡ Done) ↔ AllAnswered scripts calls
   pub at_limit : (ending ≡ Limit) ↔ ((AllAnswered scripts calls → ⊥) × (limit ≤ steps))
-  pub stuck : (ending ≡ Stuck) ↔ ((AllAnswered scripts calls → ⊥) × (steps < limit) × (IsEnabled c final (next_ops scripts calls) → ⊥))
+  pub stuck : (ending ≡ Stuck) ↔ ((AllAnswered scripts calls → ⊥) × (steps < limit) × (IsEnabled c texts final (next_ops scripts calls) → ⊥))
 
-pub record IsLawfulReport (c : RawCircuit) (scripts : List (List Op)) (limit : ℕ) (report : Report) : Type 0 where
+-- the report is lawful for a circuit whose constants name these texts, the components' scripts and a limit on steps
+pub record IsLawfulReport (c : RawCircuit) (texts : List (List ℕ)) (scripts : List (List Op)) (limit : ℕ) (report : Report) : Type 0 where
   -- the steps are a run of the product from the initial state
   pub final : State
-  pub run : Run c (initial_state c) report.steps final
+  pub run : Run c texts (initial_state c) report.steps final
   -- each is a connected firing of one region
   pub firings : All (FiresOneRegion c) report.steps
   -- there is a list of calls for each component, and its calls are its first operations
@@ -85,9 +86,9 @@ pub record IsLawfulReport (c : RawCircuit) (scripts : List (List Op)) (limit : �
   -- each call stands in its step
   pub placed : (k i : ℕ) (call : Called) → call_at report.calls k i ≡ Some call → StandsIn report.steps call
   -- every port that fires in a step does so for one call
-  pub once : (number : ℕ) (step : Step) (port : ℕ) → slice_get report.steps number ≡ Some step → port < length c.ports → Fires step port → IsAnsweredOnce report.calls number port
+  pub once : (number : ℕ) (step : Step) (port : ℕ) → slice_get report.steps number ≡ Some step → port < length c.ports → IsTrue (fires_in (datum step) port) → IsAnsweredOnce report.calls number port
   -- the circuit's regions: there are fewer steps than the limit plus the number of regions
   pub roots : List Automaton
   pub regions : AreRegions c roots
   pub bound : length report.steps < limit + length roots
-  pub ended : IsEndingOf c scripts report.calls limit (length report.steps) final report.ending
+  pub ended : IsEndingOf c texts scripts report.calls limit (length report.steps) final report.ending

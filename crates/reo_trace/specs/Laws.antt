@@ -9,5 +9,5 @@ use Rattle.reo_trace.specs.Lawful.{IsEndingOf}
 
 -- no two endings fit one run
 abbrev pub EndsInOneWay : Type 0
-EndsInOneWay = (c : RawCircuit) (scripts : List (List Op)) (calls : List (List Called)) (limit steps : ℕ) (final : State) (one other : Ending)
-    → IsEndingOf c scripts calls limit steps final one → IsEndingOf c scripts calls limit steps final other → one ≡ other
+EndsInOneWay = (c : RawCircuit) (texts : List (List ℕ)) (scripts : List (List Op)) (calls : List (List Called)) (limit steps : ℕ) (final : State) (one other : Ending)
+    → IsEndingOf c texts scripts calls limit steps final one → IsEndingOf c texts scripts calls limit steps final other → one ≡ other

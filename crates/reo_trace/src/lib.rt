@@ -1,12 +1,11 @@
 //! What a run did: its steps, the calls that it answered and how it ended, and the text of that.
 #![tactic(auto)]
 
-mod laws;
+pub mod laws;
 mod lines;
 mod measure;
 mod report;
 mod write;
 
-pub use laws::ending_is_determined;
 pub use report::{Called, Ending, Report};
 pub use write::{WriteRefusal, write_report};

@@ -2,7 +2,7 @@ use Rattle.std.proofs.Common.{◌≡◌, ℕ, ◌+◌, Bool, false, arith, lengt
 use Rattle.std.proofs.lemmas.Option.{slice_get-get_or}
 use Rattle.reo_value.specs.declared.op.Way.TheVariants.{Put}
 use Rattle.reo_net.specs.declared.circuit.Port.{Port}
-use Rattle.reo_net.specs.Checks.{IsLeast}
+use Rattle.reo_graph.specs.Paths.{IsLeast}
 use Rattle.reo_net.specs.Tables.{IsPassBelow, table_for, is_marked}
 use Rattle.reo_net.proofs.TableLemmas.{least_pass-hit, least_pass-miss}
 use Rattle.reo_net.proofs.net.least_marked.Goals as goal

@@ -1,4 +1,4 @@
-use Rattle.reo_net.specs.Checks.{IsLeast}
+use Rattle.reo_graph.specs.Paths.{IsLeast}
 use Rattle.reo_net.specs.Tables.{IsPassBelow, is_marked}
 use Rattle.reo_net.proofs.net.least_marked.Given as goal
 

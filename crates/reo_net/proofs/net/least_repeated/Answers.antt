@@ -4,7 +4,7 @@ use Rattle.std.proofs.lemmas.Option.{slice_get-get_or}
 use Rattle.std.proofs.lemmas.List.{get_or_read}
 use Rattle.reo_value.specs.declared.op.Way.TheVariants.{Put}
 use Rattle.reo_net.specs.declared.circuit.Port.{Port}
-use Rattle.reo_net.specs.Checks.{IsLeast}
+use Rattle.reo_graph.specs.Paths.{IsLeast}
 use Rattle.reo_net.specs.Tables.{IsKeyTwiceBelow}
 use Rattle.reo_net.proofs.TableLemmas.{Marks-more, least_twice-hit, least_twice-miss}
 use Rattle.reo_net.proofs.net.least_repeated.Goals as goal

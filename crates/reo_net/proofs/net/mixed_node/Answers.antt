@@ -1,9 +1,10 @@
 use Rattle.std.proofs.Common.{ℕ, List, Bool, length, subst}
 use Rattle.reo_net.specs.declared.circuit.Port.{Port}
 use Rattle.reo_net.specs.declared.circuit.Channel.{Channel}
-use Rattle.reo_net.specs.Checks.{IsLeast, IsMixed}
-use Rattle.reo_net.specs.Tables.{Marks, IsKeyBelow, IsPassBelow, is_marked}
-use Rattle.reo_net.proofs.TableLemmas.{IsLeast-same}
+use Rattle.reo_graph.specs.Paths.{IsLeast}
+use Rattle.reo_net.specs.Checks.{IsMixed}
+use Rattle.reo_net.specs.Tables.{Marks, IsPassBelow, IsSourceBelow, comes_out, is_marked}
+use Rattle.reo_graph.proofs.LeastLemmas.{IsLeast-same}
 use Rattle.reo_net.proofs.CheckLemmas.{IsMixed-from_pass, pass_from_IsMixed}
 use Rattle.reo_net.proofs.net.mixed_node.Goals as goal
 
@@ -14,8 +15,8 @@ returns c =
     let sources = c.in_ok-sources.sources.items in
     let least = c.least_marked-least.result in
     let Q : List Bool → List Bool → List Port → ℕ → Type 0 = λ s t ports. IsPassBelow (λ port. port.node) (is_marked s t) ports (length ports) in
-    let at_sinks = subst (λ (chs : List Channel). Marks sinks raw.nodes (IsKeyBelow (λ channel. channel.b) chs (length chs))) c.as_slice.ensures c.in_ok-sinks.ensures in
-    let at_sources = subst (λ (chs : List Channel). Marks sources raw.nodes (IsKeyBelow (λ channel. channel.a) chs (length chs))) c.as_slice-2.ensures c.in_ok-sources.ensures in
+    let at_sinks = subst (λ (chs : List Channel). Marks sinks raw.nodes (IsPassBelow (λ channel. channel.b) comes_out chs (length chs))) c.as_slice.ensures c.in_ok-sinks.ensures in
+    let at_sources = subst (λ (chs : List Channel). Marks sources raw.nodes (IsSourceBelow chs (length chs))) c.as_slice-2.ensures c.in_ok-sources.ensures in
     let by_items = subst (λ t. IsLeast (Q sinks t raw.ports) least) c.deref-2.ensures.value
     (subst (λ s. IsLeast (Q s c.deref-2.result.now raw.ports) least) c.deref.ensures.value
     (subst (λ ports. IsLeast (Q c.deref.result.now c.deref-2.result.now ports) least) c.as_slice-3.ensures c.least_marked-least.ensures)) in

@@ -1,8 +1,9 @@
 use Rattle.std.proofs.Common.{ℕ, List, length, subst}
 use Rattle.reo_net.specs.declared.circuit.Port.{Port}
-use Rattle.reo_net.specs.Checks.{IsLeast, HasTwoPorts}
+use Rattle.reo_graph.specs.Paths.{IsLeast}
+use Rattle.reo_net.specs.Checks.{HasTwoPorts}
 use Rattle.reo_net.specs.Tables.{IsKeyTwiceBelow}
-use Rattle.reo_net.proofs.TableLemmas.{IsLeast-same}
+use Rattle.reo_graph.proofs.LeastLemmas.{IsLeast-same}
 use Rattle.reo_net.proofs.CheckLemmas.{HasTwoPorts-from_keys, keys_from_HasTwoPorts}
 use Rattle.reo_net.proofs.net.node_with_two_ports.Goals as goal
 

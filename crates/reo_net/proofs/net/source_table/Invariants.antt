@@ -1,5 +1,5 @@
-use Rattle.reo_net.specs.Tables.{Marks, IsKeyBelow}
+use Rattle.reo_net.specs.Tables.{Marks, IsSourceBelow}
 use Rattle.reo_net.proofs.net.source_table.Given as goal
 
 abbrev pub invariant-loop-channel : goal.invariant-loop-channel
-invariant-loop-channel l = Marks l.table.items l.nodes (IsKeyBelow (λ channel. channel.a) l.channels l.channel-index)
+invariant-loop-channel l = Marks l.table.items l.nodes (IsSourceBelow l.channels l.channel-index)

@@ -16,8 +16,8 @@ returns-then-is_none-2 c =
     let named = ap (λ (ports : List Port). length ports + 2 * k) c.ports.ensures.ports in
     let no_a = none_from c.datum_at-a.result c.if-is_none.ensures in
     let no_b = none_from c.datum_at-b.result c.if-is_none-2.ensures in (
-      λ e. allows_quiet net k channel found c.args.old.now c.args.step.now c.args.new.now _ named c.datum_at-a.result c.datum_at-b.result c.held_at-was.result c.held_at-is.result c.datum_at-a.ensures c.datum_at-b.ensures c.held_at-was.ensures c.held_at-is.ensures no_a no_b (c.same.ensures.0 e),
-      λ allows. c.same.ensures.1 (quiet_allows net k channel found c.args.old.now c.args.step.now c.args.new.now _ named c.datum_at-a.result c.datum_at-b.result c.held_at-was.result c.held_at-is.result c.datum_at-a.ensures c.datum_at-b.ensures c.held_at-was.ensures c.held_at-is.ensures no_a no_b allows),
+      λ e. allows_quiet net c.args.texts.now k channel found c.args.old.now c.args.step.now c.args.new.now _ named c.datum_at-a.result c.datum_at-b.result c.content-was.result c.content-is.result c.datum_at-a.ensures c.datum_at-b.ensures c.content-was.ensures c.content-is.ensures no_a no_b (c.same.ensures.0 e),
+      λ allows. c.same.ensures.1 (quiet_allows net c.args.texts.now k channel found c.args.old.now c.args.step.now c.args.new.now _ named c.datum_at-a.result c.datum_at-b.result c.content-was.result c.content-is.result c.datum_at-a.ensures c.datum_at-b.ensures c.content-was.ensures c.content-is.ensures no_a no_b allows),
     )
 
 pub returns-else-is_none : goal.returns-else-is_none
@@ -32,6 +32,6 @@ returns-else-is_none c =
       | else-is_none-via-then-is_none+else-is_none-2 w ↦ false≢true (sym (ap is_some no_b) ∙ (w.is_none-then-is_none.ensures ∙ ap not w.if-is_none-2.false))
       | else-is_none-via-else-is_none w ↦ false≢true (sym (ap is_some no_a) ∙ (c.is_none.ensures ∙ ap not w.if-is_none.false))
     ] in (
-      λ e. allows_move net k channel found c.args.old.now c.args.step.now c.args.new.now _ named c.datum_at-a.result c.datum_at-b.result c.held_at-was.result c.held_at-is.result c.datum_at-a.ensures c.datum_at-b.ensures c.held_at-was.ensures c.held_at-is.ensures (c.is_channel_step.ensures.0 e),
-      λ allows. c.is_channel_step.ensures.1 (move_allows net k channel found c.args.old.now c.args.step.now c.args.new.now _ named c.datum_at-a.result c.datum_at-b.result c.held_at-was.result c.held_at-is.result c.datum_at-a.ensures c.datum_at-b.ensures c.held_at-was.ensures c.held_at-is.ensures busy allows),
+      λ e. allows_move net c.args.texts.now k channel found c.args.old.now c.args.step.now c.args.new.now _ named c.datum_at-a.result c.datum_at-b.result c.content-was.result c.content-is.result c.datum_at-a.ensures c.datum_at-b.ensures c.content-was.ensures c.content-is.ensures (c.allows.ensures.0 e),
+      λ allows. c.allows.ensures.1 (move_allows net c.args.texts.now k channel found c.args.old.now c.args.step.now c.args.new.now _ named c.datum_at-a.result c.datum_at-b.result c.content-was.result c.content-is.result c.datum_at-a.ensures c.datum_at-b.ensures c.content-was.ensures c.content-is.ensures busy allows),
     )

@@ -8,4 +8,4 @@ use Rattle.reo_tool.proofs.call.report_of.Goals as goal
 pub run-requires-clause-fit : goal.run-requires-clause-fit
 run-requires-clause-fit c =
     let d = c.args.document.now in
-    subst (λ (circuit : RawCircuit). ScriptsFit circuit c.scripts.result.now) (sym c.requires) (subst (λ (scripts : List (List Op)). ScriptsFit (circuit_of d) scripts) (sym c.scripts.ensures.scripts) c.scripts.ensures.document.fit)
+    subst (λ (circuit : RawCircuit). ScriptsFit circuit c.scripts.result.now) (sym c.requires.net) (subst (λ (scripts : List (List Op)). ScriptsFit (circuit_of d) scripts) (sym c.scripts.ensures.scripts) c.scripts.ensures.document.fit)

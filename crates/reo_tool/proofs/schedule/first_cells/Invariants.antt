@@ -1,5 +1,5 @@
 use Rattle.std.proofs.Common.{◌≡◌, take, flat_map}
-use Rattle.reo_net.specs.Runs.{first_content}
+use Rattle.reo_net.specs.Kind.{first_content}
 use Rattle.reo_tool.proofs.schedule.first_cells.Given as goal
 
 abbrev pub invariant-loop-channel : goal.invariant-loop-channel

@@ -29,12 +29,11 @@ pub returns-clause-builder : goal.returns-clause-builder
 returns-clause-builder c =
     let m = c.number.new.self in
     let built : IsBuilder c.number.new.self = IsBuilder-numbered _ _ _ _ c.requires.builder c.in_ok-node.ensures in
-    let ok : is_ok c.extend_from_slice.result ≡ true = ap is_ok c.in_ok-extend_from_slice.was in
     let within : c.in_ok-node.node < length c.number.new.self.seats.items =
     omega (arith, place_of-within c.number.new.self.nodes c.args.node.now c.in_ok-node.node c.in_ok-node.ensures.place, built.seats) in
     IsBuilder-port c.number.new.self _ c.in_ok-node.node c.args.way c.index.result.now built
     (slice_get_read c.number.new.self.seats.items (length c.number.new.self.seats.items) c.in_ok-node.node c.index.result.now refl within c.index.ensures)
-    (rw ok at c.extend_from_slice.ensures.items) (ap (set c.number.new.self.seats.items c.in_ok-node.node) c.or.ensures) refl refl refl refl refl
+    c.in_ok-push.ensures.items (ap (set c.number.new.self.seats.items c.in_ok-node.node) c.or.ensures) refl refl refl refl refl
 
 pub returns-then-not-is_empty-clause-exact : goal.returns-then-not-is_empty-clause-exact
 returns-then-not-is_empty-clause-exact c = λ ss rep.
@@ -45,11 +44,10 @@ returns-clause-exact c = λ ss rep.
     let yes : c.is_empty.result ≡ true = grind arith in
     let none : has_component ss ≡ false = has_component-none c.args.self.now ss rep (c.is_empty.ensures.0 yes) in
     let built : IsBuilder c.number.new.self = IsBuilder-numbered _ _ _ _ c.requires.builder c.in_ok-node.ensures in
-    let ok : is_ok c.extend_from_slice.result ≡ true = ap is_ok c.in_ok-extend_from_slice.was in
     let within : c.in_ok-node.node < length c.number.new.self.seats.items =
     omega (arith, place_of-within c.number.new.self.nodes c.args.node.now c.in_ok-node.node c.in_ok-node.ensures.place, built.seats) in (
       Represents-port c.args.self.now c.number.new.self _ ss c.args.way c.args.node.now c.in_ok-node.node c.index.result.now rep none c.requires.builder.seats c.in_ok-node.ensures
           (slice_get_read c.number.new.self.seats.items (length c.number.new.self.seats.items) c.in_ok-node.node c.index.result.now refl within c.index.ensures)
-          (rw ok at c.extend_from_slice.ensures.items) (ap (set c.number.new.self.seats.items c.in_ok-node.node) c.or.ensures) refl refl refl refl refl,
+          c.in_ok-push.ensures.items (ap (set c.number.new.self.seats.items c.in_ok-node.node) c.or.ensures) refl refl refl refl refl,
       ap not none,
     )

@@ -1,0 +1,3 @@
+pub mod ClosureLemmas
+pub mod EdgeLemmas
+pub mod LeastLemmas

@@ -1,0 +1,4 @@
+pub mod Paths
+pub mod Closure
+pub mod Edges
+pub mod Laws
