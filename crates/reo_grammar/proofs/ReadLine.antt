@@ -28,26 +28,26 @@ pub record Reaches (place : Place) (tokens : List Token) (tree : LineTree) : Typ
   pub led : go place tokens ≡ Some state
   pub is_whole : whole state ≡ Some tree
 
-circuit_step : (place : Place) (bytes : List ℕ) → is_allowed place OfCircuit ≡ true → step place LineStart (Word bytes) ≡ circuit_word (key_of bytes)
+pub circuit_step : (place : Place) (bytes : List ℕ) → is_allowed place OfCircuit ≡ true → step place LineStart (Word bytes) ≡ circuit_word (key_of bytes)
 circuit_step lines.First bytes here = refl
 circuit_step Circuit bytes here = refl
 circuit_step Scripts bytes here = absurd (false≢true here)
 
-script_step : (place : Place) (bytes : List ℕ) → is_allowed place OfScripts ≡ true → step place LineStart (Word bytes) ≡ script_word (key_of bytes)
+pub script_step : (place : Place) (bytes : List ℕ) → is_allowed place OfScripts ≡ true → step place LineStart (Word bytes) ≡ script_word (key_of bytes)
 script_step lines.First bytes here = absurd (false≢true here)
 script_step Circuit bytes here = absurd (false≢true here)
 script_step Scripts bytes here = refl
 
-component_step : (place : Place) → step place LineStart (word key.Component) ≡ Some WantName
+pub component_step : (place : Place) → step place LineStart (word key.Component) ≡ Some WantName
 unfolding key_of
 component_step lines.First = refl
 component_step Circuit = refl
 component_step Scripts = refl
 
-name_step : (next : List ℕ → State) (name : List ℕ) → IsShort name → with_name next (Word name) ≡ Some (next name)
+pub name_step : (next : List ℕ → State) (name : List ℕ) → IsShort name → with_name next (Word name) ≡ Some (next name)
 name_step next name short = ap (λ b. if b then Some (next name) else None) (le-leb (length name) 64 short)
 
-const_step : (place : Place) (node : List ℕ) (constant : Const) → step place (WantPutConst node) (const_token constant) ≡ Some (LineOver (Put node constant))
+pub const_step : (place : Place) (node : List ℕ) (constant : Const) → step place (WantPutConst node) (const_token constant) ≡ Some (LineOver (Put node constant))
 const_step place node (Integer value) = refl
 const_step place node (Phrase value) = refl
 
@@ -96,11 +96,11 @@ reaches_kind (Transform function) = record {
   is_whole = refl;
 }
 
-leads : (place : Place) (state next end : State) (token : Token) (tokens : List Token) → step place state token ≡ Some next → run (step place) (Some next) tokens ≡ Some end
+pub leads : (place : Place) (state next end : State) (token : Token) (tokens : List Token) → step place state token ≡ Some next → run (step place) (Some next) tokens ≡ Some end
     → run (step place) (Some state) (token ∷ tokens) ≡ Some end
 leads place state next end token tokens is rest = run-step (step place) state next token tokens (Some end) is rest
 
-ends_here : (place : Place) (state : State) → run (step place) (Some state) [] ≡ Some state
+pub ends_here : (place : Place) (state : State) → run (step place) (Some state) [] ≡ Some state
 unfolding run
 ends_here place state = refl
 

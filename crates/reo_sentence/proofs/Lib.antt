@@ -4,3 +4,7 @@ pub mod ReadingLemmas
 pub mod AtomLemmas
 pub mod GuardLemmas
 pub mod FunctionLemmas
+pub mod LineLemmas
+pub mod KindLemmas
+pub mod StartLemmas
+pub mod VerdictLemmas

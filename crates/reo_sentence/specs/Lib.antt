@@ -4,3 +4,6 @@ pub mod Numbered
 pub mod Reading
 pub mod GuardReading
 pub mod FunctionReading
+pub mod Said
+pub mod LineReading
+pub mod ReadLine

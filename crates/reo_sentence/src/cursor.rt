@@ -11,6 +11,7 @@ use reo_value::{Lexicon, Num, Value};
 use std::alloc::Global;
 
 /// The tokens of a line that are left, and what was noted about those before.
+#[derive(Drop)]
 pub(crate) struct Cursor<'a> {
     pub(crate) line: &'a [u8],
     pub(crate) rest: &'a [Token],

@@ -4,6 +4,13 @@
 mod cursor;
 mod function;
 mod guard;
+mod line;
 mod number;
+mod said;
+mod sentence;
 mod stop;
 mod text;
+
+pub use line::{LineRefusal, read_line};
+pub use said::{Name, Sentence};
+pub use sentence::Place;
