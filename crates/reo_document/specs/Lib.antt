@@ -1,0 +1,5 @@
+pub mod Document
+pub mod Lines
+pub mod Placed
+pub mod Spells
+pub mod Laws

@@ -1,0 +1,9 @@
+//! Documents: a circuit and the scripts of its components, read from text.
+#![tactic(auto)]
+
+pub mod laws;
+mod line;
+mod refusal;
+
+pub use line::Line;
+pub use refusal::TextRefusal;
