@@ -1,2 +1,3 @@
 pub mod LeadLemmas
 pub mod SpellLemmas
+pub mod LineLemmas

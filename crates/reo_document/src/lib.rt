@@ -3,6 +3,7 @@
 
 pub mod laws;
 mod line;
+mod lines;
 mod refusal;
 
 pub use line::Line;
