@@ -1,3 +1,4 @@
 pub mod LeadLemmas
 pub mod SpellLemmas
 pub mod LineLemmas
+pub mod BuilderLemmas

@@ -3,3 +3,5 @@ pub mod Lines
 pub mod Placed
 pub mod Spells
 pub mod Laws
+pub mod Builder
+pub mod Reading

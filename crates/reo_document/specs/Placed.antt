@@ -70,6 +70,6 @@ with_said d (PortSaid way node) =
 with_said d (ChannelSaid kind a b) =
     let nodes = added (added d.nodes a) b in
     record d { nodes = nodes; lines = d.lines ++ line.Channel (record { kind = kind; a = number_in nodes a; b = number_in nodes b }) ∷ [] }
-with_said d (ComponentSaid name) = record d { people = d.people ++ name ∷ []; scripts = d.scripts ++ [] ∷ [] }
+with_said d (ComponentSaid name) = record d { people = added d.people name; scripts = d.scripts ++ [] ∷ [] }
 with_said d (PutSaid node value) = record d { scripts = with_operation d.scripts (op.Put (port_number d node) value) }
 with_said d (GetSaid node) = record d { scripts = with_operation d.scripts (op.Get (port_number d node)) }

@@ -1,6 +1,7 @@
 //! Documents: a circuit and the scripts of its components, read from text.
 #![tactic(auto)]
 
+mod builder;
 pub mod laws;
 mod line;
 mod lines;
