@@ -1,0 +1,4 @@
+pub mod LeadLemmas
+pub mod SpellLemmas
+pub mod LineLemmas
+pub mod BuilderLemmas

@@ -1,0 +1,7 @@
+use Rattle.std.proofs.Common.{◌≡◌, ◌∷◌, [], ◌++◌, ap, ◌∙◌}
+use Rattle.reo_document.proofs.BuilderLemmas.{with_people}
+use Rattle.reo_document.proofs.builder.Builder.add_component.Goals as goal
+
+pub returns-clause-exact : goal.returns-clause-exact
+returns-clause-exact c =
+    with_people c.args.self.now.lines.items c.args.self.now.nodes c.args.self.now.texts c.args.self.now.people _ c.args.self.now.scripts.items _ c.args.name.now c.in_ok-number.ensures.names (c.in_ok-push.ensures.items ∙ ap (λ s. c.args.self.now.scripts.items ++ s ∷ []) c.new.ensures)

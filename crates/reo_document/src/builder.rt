@@ -1,0 +1,304 @@
+//! A document as it is read, line by line.
+ghost use Rattle.std.specs.Prelude.{◌≡◌, ◌<◌, ◌^◌, ◌==◌, ◌-◌, nat_le, ◌+◌, ◌≤◌, length, take, IfOk, OnOk};
+ghost use Rattle.std.specs.List.{list_any};
+ghost use Rattle.reo_value.specs.Op.{port_of};
+ghost use Rattle.reo_value.specs.Lexicon.{added};
+ghost use Rattle.reo_sentence.specs.Numbered.{number_in};
+ghost use Rattle.reo_sentence.specs.Said.{name_at, said, PortSaid, ChannelSaid, ComponentSaid};
+ghost use Rattle.reo_document.specs.Placed.{port_from, port_named, is_taken, operation_count, misplaced_at, misplaced, port_number, with_operation, with_said};
+ghost use Rattle.reo_document.specs.Spells.{empty};
+ghost use Rattle.reo_document.specs.Builder.{data_of, operation_at};
+
+use crate::line::Line;
+use crate::refusal::Misplaced;
+use reo_net::{Channel, Kind};
+use reo_sentence::{Name, Sentence};
+use reo_value::{Lexicon, Op, Value, Way};
+use sqlite_items::Items;
+use std::alloc::{AllocError, Global};
+
+const MOST_COMPONENTS: u32 = 128;
+
+const MOST_OPERATIONS: usize = 100_000;
+
+/// The parts of a document that are known so far.
+#[derive(Drop)]
+pub(crate) struct Builder {
+    pub(crate) lines: Vec<Line>,
+    pub(crate) nodes: Lexicon,
+    pub(crate) texts: Lexicon,
+    pub(crate) people: Lexicon,
+    pub(crate) scripts: Vec<Items<Op>>,
+}
+
+impl Builder {
+    pub(crate) fn new(alloc: Global) -> Builder
+        ensures empty { data_of result ≡ empty }
+    {
+        Builder {
+            lines: Vec::new(alloc),
+            nodes: Lexicon::new(alloc),
+            texts: Lexicon::new(alloc),
+            people: Lexicon::new(alloc),
+            scripts: Vec::new(alloc),
+        }
+    }
+
+    /// Why the line that says this may not stand here, if so.
+    pub(crate) fn misplaced(
+        &self,
+        line: &[u8],
+        sentence: &Sentence,
+    ) -> Result<Option<Misplaced>, AllocError>
+        requires { length self.now.lines.items < 2 ^ 31 }
+        ensures { IfOk result (λ why. why ≡ misplaced (data_of self.now) (said line.now sentence.now)) }
+    {
+        match sentence {
+            Sentence::Port(_, _) => Ok(None),
+            Sentence::Channel(_, _, _) => Ok(None),
+            Sentence::Component(name) => self.misplaced_component(line, *name),
+            Sentence::Put(node, _) => self.misplaced_operation(line, *node, Way::Put),
+            Sentence::Get(node) => self.misplaced_operation(line, *node, Way::Get),
+        }
+    }
+
+    fn misplaced_component(&self, line: &[u8], name: Name) -> Result<Option<Misplaced>, AllocError>
+        ensures { IfOk result (λ why. why ≡ misplaced (data_of self.now) (ComponentSaid (name_at line.now name))) }
+    {
+        if self.people.len() >= MOST_COMPONENTS {
+            return Ok(Some(Misplaced::TooManyComponents));
+        }
+        let name = name_in(line, name)?;
+        if self.people.find(name).is_some() {
+            return Ok(Some(Misplaced::ComponentTwice));
+        }
+        Ok(None)
+    }
+
+    fn misplaced_operation(
+        &self,
+        line: &[u8],
+        node: Name,
+        way: Way,
+    ) -> Result<Option<Misplaced>, AllocError>
+        requires { length self.now.lines.items < 2 ^ 31 }
+        ensures { IfOk result (λ why. why ≡ misplaced_at (data_of self.now) way (port_named (data_of self.now) (name_at line.now node))) }
+    {
+        let name = name_in(line, node)?;
+        Ok(self.misplaced_at(self.port(name), way))
+    }
+
+    // The first port at the node of this name.
+    fn port(&self, name: &str) -> Option<(u32, Way)>
+        requires { length self.now.lines.items < 2 ^ 31 }
+        ensures { result ≡ port_named (data_of self.now) name.now }
+    {
+        let node = self.nodes.find(name)?;
+        port_at(self.lines.as_slice(), node)
+    }
+
+    fn misplaced_at(&self, port: Option<(u32, Way)>, way: Way) -> Option<Misplaced>
+        ensures { result ≡ misplaced_at (data_of self.now) way port }
+    {
+        let Some((number, other)) = port else {
+            return Some(Misplaced::UnknownPort);
+        };
+        if other != way {
+            return Some(Misplaced::WrongWay);
+        }
+        if is_taken(self.scripts.as_slice(), number) {
+            return Some(Misplaced::PortShared);
+        }
+        if is_full(self.scripts.as_slice()) {
+            return Some(Misplaced::TooManyOps);
+        }
+        None
+    }
+
+    /// Adds what a line says.
+    pub(crate) fn add(
+        &mut self,
+        alloc: Global,
+        line: &[u8],
+        sentence: Sentence,
+    ) -> Result<(), AllocError>
+        requires { length self.old.lines.items < 2 ^ 31 }
+        ensures exact { OnOk result (data_of self.new ≡ with_said (data_of self.old) (said line.now sentence)) }
+        ensures lines { OnOk result (length self.new.lines.items ≤ length self.old.lines.items + 1) }
+    {
+        match sentence {
+            Sentence::Port(way, node) => self.add_port(alloc, name_in(line, node)?, way),
+            Sentence::Channel(kind, a, b) => {
+                self.add_channel(alloc, kind, name_in(line, a)?, name_in(line, b)?)
+            }
+            Sentence::Component(name) => self.add_component(alloc, name_in(line, name)?),
+            Sentence::Put(node, value) => {
+                let port = self.port_number(name_in(line, node)?);
+                self.add_operation(port, Some(value))
+            }
+            Sentence::Get(node) => {
+                let port = self.port_number(name_in(line, node)?);
+                self.add_operation(port, None)
+            }
+        }
+    }
+
+    fn add_port(&mut self, alloc: Global, node: &str, way: Way) -> Result<(), AllocError>
+        ensures exact { OnOk result (data_of self.new ≡ with_said (data_of self.old) (PortSaid way node.now)) }
+        ensures lines { OnOk result (length self.new.lines.items ≤ length self.old.lines.items + 1) }
+    {
+        let node = number(alloc, &mut self.nodes, node)?;
+        self.lines.push(Line::Port(way, node))?;
+        Ok(())
+    }
+
+    fn add_channel(&mut self, alloc: Global, kind: Kind, a: &str, b: &str) -> Result<(), AllocError>
+        ensures exact { OnOk result (data_of self.new ≡ with_said (data_of self.old) (ChannelSaid kind a.now b.now)) }
+        ensures lines { OnOk result (length self.new.lines.items ≤ length self.old.lines.items + 1) }
+    {
+        let first = number(alloc, &mut self.nodes, a)?;
+        let second = number(alloc, &mut self.nodes, b)?;
+        self.lines.push(Line::Channel(Channel {
+            kind,
+            a: first,
+            b: second,
+        }))?;
+        Ok(())
+    }
+
+    fn add_component(&mut self, alloc: Global, name: &str) -> Result<(), AllocError>
+        ensures exact { OnOk result (data_of self.new ≡ with_said (data_of self.old) (ComponentSaid name.now)) }
+        ensures lines { OnOk result (self.new.lines.items ≡ self.old.lines.items) }
+    {
+        number(alloc, &mut self.people, name)?;
+        self.scripts.push(Items::new(alloc))?;
+        Ok(())
+    }
+
+    // Adds an operation to the last script.
+    fn add_operation(&mut self, port: u32, value: Option<Value>) -> Result<(), AllocError>
+        ensures exact { OnOk result (data_of self.new ≡ record (data_of self.old) { scripts = with_operation self.old.scripts.items (operation_at port value) }) }
+        ensures lines { OnOk result (self.new.lines.items ≡ self.old.lines.items) }
+    {
+        if self.scripts.is_empty() {
+            return Ok(());
+        }
+        let last = self.scripts.len() - 1;
+        let operation = operation_at(port, value);
+        self.scripts[last].push(operation)?;
+        Ok(())
+    }
+
+    // The number of the first port at the node of this name, or 0 where there is none.
+    fn port_number(&self, name: &str) -> u32
+        requires { length self.now.lines.items < 2 ^ 31 }
+        ensures { result ≡ port_number (data_of self.now) name.now }
+    {
+        match self.port(name) {
+            Some((number, _)) => number,
+            None => 0,
+        }
+    }
+}
+
+// A put of the value at the port, or a get there.
+fn operation_at(port: u32, value: Option<Value>) -> Op
+    ensures { result ≡ operation_at port value }
+{
+    match value {
+        Some(value) => Op::Put(port, value),
+        None => Op::Get(port),
+    }
+}
+
+// The number of a name, which is added where it is new.
+fn number(alloc: Global, names: &mut Lexicon, name: &str) -> Result<u32, AllocError>
+    ensures names { OnOk result (names.new ≡ added names.old name.now) }
+    ensures number { IfOk result (λ n. n ≡ number_in (added names.old name.now) name.now) }
+{
+    // A name is short, and a document has room for few of them.
+    names.add(alloc, name).map_err(|_| AllocError)
+}
+
+// The name at this place of a line.
+fn name_in(line: &[u8], name: Name) -> Result<&str, AllocError>
+    ensures { IfOk result (λ text. text.now ≡ name_at line.now name) }
+{
+    // A name is a word of its line, which is UTF-8.
+    let Some(bytes) = line.get(name.start as usize..name.end as usize) else {
+        return Err(AllocError);
+    };
+    let Ok(text) = str::from_utf8(bytes) else {
+        return Err(AllocError);
+    };
+    Ok(text)
+}
+
+// The first port at a node: its number, and its way.
+fn port_at(lines: &[Line], node: u32) -> Option<(u32, Way)>
+    requires { length lines.now < 2 ^ 31 }
+    ensures { result ≡ port_from 0 lines.now node }
+{
+    let mut number = 0;
+    for line in lines {
+        match line {
+            Line::Port(way, at) => {
+                if *at == node {
+                    return Some((number, *way));
+                }
+                number += 1;
+            }
+            Line::Channel(_) => {}
+        }
+    }
+    None
+}
+
+// A component that is not the last one has an operation at the port.
+fn is_taken(scripts: &[Items<Op>], port: u32) -> bool
+    ensures { result ≡ is_taken scripts.now port }
+{
+    earlier(scripts).iter().any(|script| uses(script, port))
+}
+
+// All scripts but the last.
+fn earlier(scripts: &[Items<Op>]) -> &[Items<Op>]
+    ensures { result.now ≡ take (length scripts.now - 1) scripts.now }
+{
+    match scripts.len().checked_sub(1) {
+        Some(count) => &scripts[..count],
+        None => scripts,
+    }
+}
+
+fn uses(script: &Items<Op>, port: u32) -> bool
+    ensures { result ≡ list_any (λ o. port_of o == port) script.now }
+{
+    script
+        .as_slice()
+        .iter()
+        .any(|operation| port_of(operation) == port)
+}
+
+fn port_of(operation: &Op) -> u32
+    ensures { result ≡ port_of operation.now }
+{
+    match operation {
+        Op::Put(port, _) => *port,
+        Op::Get(port) => *port,
+    }
+}
+
+// There are as many operations as a document may have.
+fn is_full(scripts: &[Items<Op>]) -> bool
+    ensures { result ≡ nat_le 100000 (operation_count scripts.now) }
+{
+    let mut room = MOST_OPERATIONS;
+    for script in scripts {
+        if script.len() >= room {
+            return true;
+        }
+        room -= script.len();
+    }
+    false
+}

@@ -1,0 +1,10 @@
+pub mod ListLemmas
+pub mod SeenLemmas
+pub mod ReadingLemmas
+pub mod AtomLemmas
+pub mod GuardLemmas
+pub mod FunctionLemmas
+pub mod LineLemmas
+pub mod KindLemmas
+pub mod StartLemmas
+pub mod VerdictLemmas

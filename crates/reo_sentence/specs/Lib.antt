@@ -1,0 +1,9 @@
+pub mod Seen
+pub mod Limits
+pub mod Numbered
+pub mod Reading
+pub mod GuardReading
+pub mod FunctionReading
+pub mod Said
+pub mod LineReading
+pub mod ReadLine
