@@ -1,7 +1,6 @@
 -- What a line leads to.
-use Rattle.std.proofs.Common.{◌≡◌, ◌≢◌, ℕ, ◌+◌, Bool, true, false, if◌then◌else◌, ◌==◌, List, [], ◌∷◌, length, arith, map, Option, Some, None, refl, sym, ap, subst, ◌∙◌}
+use Rattle.std.proofs.Common.{◌≡◌, ◌≢◌, ℕ, ◌+◌, ◌<◌, ◌≤◌, Bool, true, false, if◌then◌else◌, ◌==◌, List, [], ◌∷◌, length, arith, map, Option, Some, None, refl, sym, ap, subst, ◌∙◌}
 use Rattle.reo_token.specs.declared.token.Token.{Token}
-use Rattle.reo_token.specs.declared.token.End.{End}
 use Rattle.reo_token.specs.declared.token.End.TheVariants.{Over, Bad, Large}
 use Rattle.reo_token.specs.Cut.{cut}
 use Rattle.reo_grammar.specs.Lines.{Sentence, IsLine}
@@ -12,14 +11,20 @@ use Rattle.reo_sentence.specs.Said.{Said, PortSaid, ChannelSaid, ComponentSaid, 
 use Rattle.reo_sentence.specs.ReadLine.{SaysIt, IsWrongAt, IsWide, IsLong, column_at}
 use Rattle.reo_document.specs.declared.refusal.Misplaced.{Misplaced}
 use Rattle.reo_document.specs.declared.refusal.Misplaced.TheVariants as why_not
-use Rattle.reo_document.specs.Reading.{StopsWith}
+use Rattle.std.specs.Prelude.{IsUtf8}
+use Rattle.reo_document.specs.declared.refusal.TextRefusal.TheVariants as text_refusal
+use Rattle.reo_document.specs.Spells.{empty}
+use Rattle.reo_document.proofs.SpellLemmas.{refused}
+use Rattle.reo_document.specs.Reading.{StopsWith, StopsIn, IsRefusalOf}
 use Rattle.std.specs.Prelude.{Result, Ok, Err}
-use Rattle.std.specs.Result.{OnOk, is_ok}
+use Rattle.std.specs.Result.{OnOk, IfErr, IsErrAnd, is_ok}
 use Rattle.std.proofs.lemmas.Bool.{false≢true, eqb-true}
 use Rattle.reo_document.specs.declared.refusal.TextRefusal.TheVariants.{Syntax, LineLarge, NumberRange, TextLong}
 use Rattle.reo_document.specs.Document.{DocumentData}
 use Rattle.reo_document.specs.Placed.{misplaced, with_said}
-use Rattle.reo_document.specs.Spells.{place_in, Outcome, Goes, Stops, outcome_of, outcome_by, placed, refusal_at, tokens_in, Leads, bad, large, skipped, wrong, says}
+use Rattle.reo_document.specs.Spells.{place_in, Outcome, Goes, Stops, outcome_of, outcome_by, placed, refusal_at, tokens_in, Leads, LinesLead, bad, large, skipped, wrong, says}
+use Rattle.reo_document.specs.Lines.{lines_of}
+use Rattle.reo_document.specs.declared.refusal.TextRefusal.{TextRefusal}
 
 pub leads_bad : (d : DocumentData) (number : ℕ) (line : List ℕ) (tokens : List Token) (at : ℕ) → (tokens, Bad at) ≡ cut 512 0 line → Leads d number line (Stops (Syntax number (at + 1)))
 leads_bad d number line tokens at is = bad at (sym (ap (λ r. r.1) is))
@@ -116,3 +121,45 @@ no_items [] told is holds = refl
 no_items (x ∷ xs) told is holds =
     let none : length (x ∷ xs) ≡ 0 = eqb-true (length (x ∷ xs)) 0 (sym is ∙ holds) in
     absurd (omega (arith, none))
+
+-- What the rest of the lines leads to, all lines lead to.
+pub record LeadsOn (first : DocumentData) (bytes : List ℕ) (d : DocumentData) (rest : List ℕ) (number : ℕ) : Type 0 where
+  pub leads : (outcome : Outcome) → LinesLead d number (lines_of rest) outcome → LinesLead first 1 (lines_of bytes) outcome
+  pub count : number + length rest ≤ length bytes + 1
+  pub lines : length d.lines + 1 ≤ number
+
+pub leads_first : (d : DocumentData) (bytes : List ℕ) → length d.lines ≡ 0 → LeadsOn d bytes d bytes 1
+leads_first d bytes none = record { leads = λ outcome l. l; count = omega arith; lines = omega (arith, none) }
+
+pub leads_next : (first d next : DocumentData) (bytes rest line more : List ℕ) (number : ℕ) → LeadsOn first bytes d rest number → lines_of rest ≡ line ∷ lines_of more → length more < length rest
+    → Leads d number line (Goes next) → length next.lines ≤ length d.lines + 1 → LeadsOn first bytes next more (number + 1)
+unfolding LinesLead
+leads_next first d next bytes rest line more number on is fewer goes grown = record {
+  leads = λ outcome l. on.leads outcome (subst (λ ls. LinesLead d number ls outcome) (sym is) (Goes next, (goes, l)));
+  count = omega (arith, on.count, fewer);
+  lines = omega (arith, on.lines, grown);
+}
+
+pub leads_last : (first d next : DocumentData) (bytes rest line : List ℕ) (number : ℕ) → LeadsOn first bytes d rest number → lines_of rest ≡ line ∷ [] → Leads d number line (Goes next)
+    → LinesLead first 1 (lines_of bytes) (Goes next)
+unfolding LinesLead
+leads_last first d next bytes rest line number on is goes = on.leads (Goes next) (subst (λ ls. LinesLead d number ls (Goes next)) (sym is) (Goes next, (goes, refl)))
+
+leads_stop : (first d : DocumentData) (bytes rest line : List ℕ) (lines : List (List ℕ)) (number : ℕ) (refusal : TextRefusal) → LeadsOn first bytes d rest number → lines_of rest ≡ line ∷ lines
+    → Leads d number line (Stops refusal) → LinesLead first 1 (lines_of bytes) (Stops refusal)
+unfolding LinesLead
+leads_stop first d bytes rest line lines number refusal on is stops = on.leads (Stops refusal) (subst (λ ls. LinesLead d number ls (Stops refusal)) (sym is) (Stops refusal, (stops, refl)))
+
+pub leads_stops : (first d : DocumentData) (bytes rest line : List ℕ) (lines : List (List ℕ)) (number : ℕ) (refusal : TextRefusal) → LeadsOn first bytes d rest number → lines_of rest ≡ line ∷ lines
+    → StopsWith d number line refusal → StopsIn first 1 (lines_of bytes) refusal
+leads_stops first d bytes rest line lines number text_refusal.NoMemory on is stops = tt
+leads_stops first d bytes rest line lines number refusal on is stops = leads_stop first d bytes rest line lines number refusal on is stops
+
+pub refusal_of : (d : DocumentData) (bytes : List ℕ) (refusal : TextRefusal) → d ≡ empty → IsUtf8 bytes → StopsIn d 1 (lines_of bytes) refusal → IsRefusalOf bytes refusal
+refusal_of d bytes text_refusal.NoMemory is utf8 stops = tt
+refusal_of d bytes refusal is utf8 stops = refused bytes refusal utf8 (subst (λ e. LinesLead e 1 (lines_of bytes) (Stops refusal)) is stops)
+
+-- what is true of an error is true of it as it is passed on
+pub passed_on : {V : Type 0} (result : Result V TextRefusal) (e : TextRefusal) (P : TextRefusal → Type 0) → IsErrAnd result (λ b. b ≡ e) → P e → IfErr result P
+passed_on (Ok v) e P is p = tt
+passed_on (Err b) e P is p = subst P (sym is) p

@@ -1,13 +1,15 @@
 //! Reading the lines of a document.
-ghost use Rattle.std.specs.Prelude.{◌≡◌, ◌≢◌, ◌+◌, ◌<◌, ◌≤◌, ◌^◌, [], length, All, OnOk, IfErr};
+ghost use Rattle.std.specs.Prelude.{◌≡◌, ◌≢◌, ◌+◌, ◌<◌, ◌≤◌, ◌^◌, [], length, All, OnOk, IfOk, IfErr};
 ghost use Rattle.reo_token.specs.Cut.{cut, IsWithin};
 ghost use Rattle.reo_token.specs.declared.token.End.TheVariants.{Over as IsOver};
 ghost use Rattle.reo_sentence.specs.LineReading.{place_of};
-ghost use Rattle.reo_document.specs.Spells.{place_in, refusal_at, Leads, Goes};
+ghost use Rattle.reo_document.specs.Spells.{place_in, refusal_at, Leads, LinesLead, Goes, Spells};
 ghost use Rattle.reo_document.specs.Builder.{data_of};
-ghost use Rattle.reo_document.specs.Reading.{StopsWith};
+ghost use Rattle.reo_document.specs.Reading.{StopsWith, StopsIn, IsRefusalOf};
+ghost use Rattle.reo_document.specs.Lines.{lines_of};
 
 use crate::builder::Builder;
+use crate::lines::next_line;
 use crate::refusal::{Misplaced, TextRefusal};
 use reo_sentence::{LineRefusal, Place, read_line};
 use reo_token::{End, Token, cut_line};
@@ -99,5 +101,40 @@ fn refusal_at(number: u32, why: Misplaced) -> TextRefusal
         Misplaced::WrongWay => TextRefusal::WrongWay(number),
         Misplaced::PortShared => TextRefusal::PortShared(number),
         Misplaced::TooManyOps => TextRefusal::TooManyOps(number),
+    }
+}
+
+/// The document that the bytes spell, by its parts.
+pub(crate) fn read_parts(alloc: Global, bytes: &[u8]) -> Result<Builder, TextRefusal>
+    requires { length bytes.now ≤ 8388608 }
+    ensures spells { IfOk result (λ builder. Spells bytes.now (data_of builder)) }
+    ensures refused { IfErr result (IsRefusalOf bytes.now) }
+{
+    if let Err(error) = str::from_utf8(bytes) {
+        return Err(TextRefusal::NotUtf8(error.valid_up_to() as u32));
+    }
+    let mut builder = Builder::new(alloc);
+    read_lines(alloc, &mut builder, bytes)?;
+    Ok(builder)
+}
+
+// Adds all lines.
+fn read_lines(alloc: Global, builder: &mut Builder, bytes: &[u8]) -> Result<(), TextRefusal>
+    requires short { length bytes.now ≤ 8388608 }
+    requires room { length builder.old.lines.items ≡ 0 }
+    ensures goes { OnOk result (LinesLead (data_of builder.old) 1 (lines_of bytes.now) (Goes (data_of builder.new))) }
+    ensures stops { IfErr result (StopsIn (data_of builder.old) 1 (lines_of bytes.now)) }
+{
+    let mut tokens = Vec::new(alloc);
+    let mut rest = bytes;
+    let mut number = 1;
+    'lines: loop {
+        let (line, more) = next_line(rest);
+        builder.read(alloc, &mut tokens, line, number)?;
+        let Some(more) = more else {
+            return Ok(());
+        };
+        rest = more;
+        number += 1;
     }
 }

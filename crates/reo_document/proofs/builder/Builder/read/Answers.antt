@@ -1,9 +1,7 @@
-use Rattle.std.proofs.Common.{◌≡◌, ◌+◌, ◌<◌, ◌≤◌, ◌^◌, length, arith, refl, sym, ap, subst, ◌∙◌}
+use Rattle.std.proofs.Common.{◌≤◌, length, arith, sym, ap, subst, ◌∙◌}
 use Rattle.reo_token.specs.Cut.{IsEndWithin}
-use Rattle.reo_sentence.specs.Said.{said}
-use Rattle.reo_sentence.specs.ReadLine.{SaysIt, IsWrongAt, IsWide, IsLong}
 use Rattle.reo_document.specs.Builder.{data_of}
-use Rattle.reo_document.proofs.ReadLemmas.{Tokens, leads_bad, leads_large, leads_on, leads_wrong, leads_wide, leads_long, leads_misplaced, leads_with, no_items}
+use Rattle.reo_document.proofs.ReadLemmas.{leads_bad, leads_large, leads_on, no_items}
 use Rattle.reo_document.proofs.builder.Builder.read.Goals as goal
 
 pub overflow_add-result : goal.overflow_add-result

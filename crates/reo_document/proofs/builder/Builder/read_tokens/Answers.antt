@@ -1,13 +1,12 @@
-use Rattle.std.proofs.Common.{◌≡◌, ◌+◌, ◌<◌, ◌≤◌, ◌^◌, length, arith, refl, sym, ap, subst, ◌∙◌}
+use Rattle.std.proofs.Common.{sym, subst, ◌∙◌}
 use Rattle.reo_sentence.specs.Said.{said}
 use Rattle.reo_sentence.specs.ReadLine.{SaysIt, IsWrongAt, IsWide, IsLong, IsRefusedLine}
 use Rattle.reo_sentence.specs.LineReading.{place_of}
-use Rattle.reo_sentence.specs.declared.line.LineRefusal.TheVariants as why
 use Rattle.reo_document.specs.declared.refusal.TextRefusal.TheVariants.{Syntax}
 use Rattle.reo_document.specs.Spells.{Leads, Stops}
 use Rattle.reo_document.specs.Builder.{data_of}
 use Rattle.reo_document.specs.Reading.{StopsWith}
-use Rattle.reo_document.proofs.ReadLemmas.{Tokens, leads_bad, leads_large, leads_on, leads_wrong, leads_wide, leads_long, leads_misplaced, leads_with, OnOk-same, stops_why}
+use Rattle.reo_document.proofs.ReadLemmas.{leads_wrong, leads_wide, leads_long, leads_misplaced, leads_with, OnOk-same, stops_why}
 use Rattle.reo_document.proofs.builder.Builder.read_tokens.Goals as goal
 
 pub returns-in-Ok-Some-clause-stops : goal.returns-in-Ok-Some-clause-stops
