@@ -76,7 +76,7 @@ lines_of_lines d number (line ∷ lines) outcome lead = by lead.0 (line_of_lines
     by (Goes next) is rest each = each next rest
     by (Stops refusal) is same each = subst IsOfLines (sym same) is
 
-refused : (bytes : List ℕ) (refusal : TextRefusal) → IsUtf8 bytes → LinesLead empty 1 (lines_of bytes) (Stops refusal) → IsRefusedAs bytes refusal
+pub refused : (bytes : List ℕ) (refusal : TextRefusal) → IsUtf8 bytes → LinesLead empty 1 (lines_of bytes) (Stops refusal) → IsRefusedAs bytes refusal
 refused bytes (why.NotUtf8 byte) utf8 lead = absurd (lines_of_lines empty 1 (lines_of bytes) (Stops (why.NotUtf8 byte)) lead)
 refused bytes refusal utf8 lead = (utf8, lead)
 

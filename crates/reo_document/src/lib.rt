@@ -5,6 +5,7 @@ mod builder;
 pub mod laws;
 mod line;
 mod lines;
+mod read;
 mod refusal;
 
 pub use line::Line;

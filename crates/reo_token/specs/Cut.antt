@@ -108,3 +108,9 @@ pub record IsWithin (len : ℕ) (token : Token) : Type 0 where
   pub some : token.start < token.end
   pub end : token.end ≤ len
   pub quotes : token.lexeme ≡ Text → token.start + 2 ≤ token.end
+
+-- a bad token begins in a line of so many bytes
+abbrev pub IsEndWithin : ℕ → End → Type 0
+IsEndWithin len ends.Over = Unit {0}
+IsEndWithin len (ends.Bad at) = at ≤ len
+IsEndWithin len ends.Large = Unit {0}

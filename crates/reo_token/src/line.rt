@@ -18,6 +18,7 @@ pub fn cut_line(tokens: &mut Vec<Token>, line: &[u8]) -> Result<End, AllocError>
     requires { length line.now < 2 ^ 32 }
     ensures exact { IfOk result (λ end. (tokens.new.items, end) ≡ spec.cut MOST_TOKENS 0 line.now) }
     ensures within { OnOk result (All (spec.IsWithin (length line.now)) tokens.new.items) }
+    ensures end { IfOk result (spec.IsEndWithin (length line.now)) }
 {
     tokens.clear();
     let mut rest = line;

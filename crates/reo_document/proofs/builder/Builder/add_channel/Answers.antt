@@ -1,4 +1,3 @@
-use Rattle.std.proofs.Common.{◌≡◌, ◌∷◌, [], ◌++◌, ap, ◌∙◌}
 use Rattle.reo_document.proofs.BuilderLemmas.{with_channel}
 use Rattle.reo_document.proofs.builder.Builder.add_channel.Goals as goal
 

@@ -1,4 +1,4 @@
-use Rattle.std.proofs.Common.{◌≡◌, ◌∷◌, [], ◌++◌, ap, ◌∙◌}
+use Rattle.std.proofs.Common.{◌∷◌, [], ◌++◌, ap, ◌∙◌}
 use Rattle.reo_document.proofs.BuilderLemmas.{with_people}
 use Rattle.reo_document.proofs.builder.Builder.add_component.Goals as goal
 

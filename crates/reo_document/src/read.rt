@@ -1,0 +1,140 @@
+//! Reading the lines of a document.
+ghost use Rattle.std.specs.Prelude.{◌≡◌, ◌≢◌, ◌+◌, ◌<◌, ◌≤◌, ◌^◌, [], length, All, OnOk, IfOk, IfErr};
+ghost use Rattle.reo_token.specs.Cut.{cut, IsWithin};
+ghost use Rattle.reo_token.specs.declared.token.End.TheVariants.{Over as IsOver};
+ghost use Rattle.reo_sentence.specs.LineReading.{place_of};
+ghost use Rattle.reo_document.specs.Spells.{place_in, refusal_at, Leads, LinesLead, Goes, Spells};
+ghost use Rattle.reo_document.specs.Builder.{data_of};
+ghost use Rattle.reo_document.specs.Reading.{StopsWith, StopsIn, IsRefusalOf};
+ghost use Rattle.reo_document.specs.Lines.{lines_of};
+
+use crate::builder::Builder;
+use crate::lines::next_line;
+use crate::refusal::{Misplaced, TextRefusal};
+use reo_sentence::{LineRefusal, Place, read_line};
+use reo_token::{End, Token, cut_line};
+use std::alloc::Global;
+
+impl Builder {
+    /// Adds the line of this number.
+    pub(crate) fn read(
+        &mut self,
+        alloc: Global,
+        tokens: &mut Vec<Token>,
+        line: &[u8],
+        number: u32,
+    ) -> Result<(), TextRefusal>
+        requires short { length line.now < 2 ^ 31 }
+        requires room { length self.old.lines.items < 2 ^ 31 }
+        ensures goes { OnOk result (Leads (data_of self.old) number line.now (Goes (data_of self.new))) }
+        ensures stops { IfErr result (StopsWith (data_of self.old) number line.now) }
+        ensures lines { OnOk result (length self.new.lines.items ≤ length self.old.lines.items + 1) }
+    {
+        let Ok(end) = cut_line(tokens, line) else {
+            return Err(TextRefusal::NoMemory);
+        };
+        match end {
+            End::Bad(at) => Err(TextRefusal::Syntax(number, at + 1)),
+            End::Large => Err(TextRefusal::LineLarge(number)),
+            End::Over => {
+                let tokens = tokens.as_slice();
+                if tokens.is_empty() {
+                    return Ok(());
+                }
+                self.read_tokens(alloc, tokens, line, number)
+            }
+        }
+    }
+
+    // Adds the line of this number, which has these tokens.
+    fn read_tokens(
+        &mut self,
+        alloc: Global,
+        tokens: &[Token],
+        line: &[u8],
+        number: u32,
+    ) -> Result<(), TextRefusal>
+        requires short { length line.now < 2 ^ 31 }
+        requires room { length self.old.lines.items < 2 ^ 31 }
+        requires cut { (tokens.now, IsOver) ≡ cut 512 0 line.now }
+        requires within { All (IsWithin (length line.now)) tokens.now }
+        requires some { tokens.now ≢ [] }
+        ensures goes { OnOk result (Leads (data_of self.old) number line.now (Goes (data_of self.new))) }
+        ensures stops { IfErr result (StopsWith (data_of self.old) number line.now) }
+        ensures lines { OnOk result (length self.new.lines.items ≤ length self.old.lines.items + 1) }
+    {
+        let place = self.place();
+        match read_line(alloc, line, tokens, place, &mut self.texts) {
+            Ok(sentence) => match self.misplaced(line, &sentence) {
+                Ok(Some(why)) => Err(refusal_at(number, why)),
+                Ok(None) => self
+                    .add(alloc, line, sentence)
+                    .map_err(|_| TextRefusal::NoMemory),
+                Err(_) => Err(TextRefusal::NoMemory),
+            },
+            Err(LineRefusal::Syntax(column)) => Err(TextRefusal::Syntax(number, column)),
+            Err(LineRefusal::NumberRange) => Err(TextRefusal::NumberRange(number)),
+            Err(LineRefusal::TextLong) => Err(TextRefusal::TextLong(number)),
+            Err(LineRefusal::NoMemory) => Err(TextRefusal::NoMemory),
+        }
+    }
+
+    // Where the next line stands.
+    fn place(&self) -> Place
+        ensures { place_of result ≡ place_in (data_of self.now) }
+    {
+        if self.people.is_empty() {
+            Place::Circuit
+        } else {
+            Place::Scripts
+        }
+    }
+}
+
+fn refusal_at(number: u32, why: Misplaced) -> TextRefusal
+    ensures { result ≡ refusal_at number why }
+{
+    match why {
+        Misplaced::TooManyComponents => TextRefusal::TooManyComponents(number),
+        Misplaced::ComponentTwice => TextRefusal::ComponentTwice(number),
+        Misplaced::UnknownPort => TextRefusal::UnknownPort(number),
+        Misplaced::WrongWay => TextRefusal::WrongWay(number),
+        Misplaced::PortShared => TextRefusal::PortShared(number),
+        Misplaced::TooManyOps => TextRefusal::TooManyOps(number),
+    }
+}
+
+/// The document that the bytes spell, by its parts.
+pub(crate) fn read_parts(alloc: Global, bytes: &[u8]) -> Result<Builder, TextRefusal>
+    requires { length bytes.now ≤ 8388608 }
+    ensures spells { IfOk result (λ builder. Spells bytes.now (data_of builder)) }
+    ensures refused { IfErr result (IsRefusalOf bytes.now) }
+{
+    if let Err(error) = str::from_utf8(bytes) {
+        return Err(TextRefusal::NotUtf8(error.valid_up_to() as u32));
+    }
+    let mut builder = Builder::new(alloc);
+    read_lines(alloc, &mut builder, bytes)?;
+    Ok(builder)
+}
+
+// Adds all lines.
+fn read_lines(alloc: Global, builder: &mut Builder, bytes: &[u8]) -> Result<(), TextRefusal>
+    requires short { length bytes.now ≤ 8388608 }
+    requires room { length builder.old.lines.items ≡ 0 }
+    ensures goes { OnOk result (LinesLead (data_of builder.old) 1 (lines_of bytes.now) (Goes (data_of builder.new))) }
+    ensures stops { IfErr result (StopsIn (data_of builder.old) 1 (lines_of bytes.now)) }
+{
+    let mut tokens = Vec::new(alloc);
+    let mut rest = bytes;
+    let mut number = 1;
+    'lines: loop {
+        let (line, more) = next_line(rest);
+        builder.read(alloc, &mut tokens, line, number)?;
+        let Some(more) = more else {
+            return Ok(());
+        };
+        rest = more;
+        number += 1;
+    }
+}
