@@ -113,7 +113,7 @@ stuck_after step whole start middle front tokens rest all led split gets = recor
 
 pub stuck_here : {S T : Type 0} (step : S → Token → Option S) (whole : S → Option T) (state : S) (tokens : List Token) → IsStuck step whole state tokens → GetsStuck step whole state tokens tokens
 unfolding run
-stuck_here step whole state tokens stuck = record { front = []; split = refl; state = state; led = refl; stuck = stuck; }
+stuck_here step whole state tokens stuck = record { front = []; split = refl; state = state; led = refl; stuck = stuck }
 
 -- what is stuck in a machine inside another one, is stuck in that
 pub stuck_map : {S T U V : Type 0} (f : S → T) (g : U → V) (inner : S → Token → Option S) (outer : T → Token → Option T) (whole_inner : S → Option U) (whole_outer : T → Option V)

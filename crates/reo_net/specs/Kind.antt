@@ -1,4 +1,4 @@
--- What is said of a channel by its kind, a line a kind: a kind more is a line more in each of these, and nothing elsewhere.
+-- What is said of a channel by its kind, a line a kind: a kind more is a line more in each of these.
 use Rattle.std.specs.Prelude.{◌≡◌, ℕ, List, [], ◌∷◌, Option, Some, None, Bool, true, false, not, ◌&&◌, ◌||◌}
 use Rattle.reo_value.specs.declared.value.Value.{Value}
 use Rattle.reo_guard.specs.Holds.{Holds}
@@ -52,7 +52,7 @@ hands_on (Fifo first) = false
 hands_on (Filter guard) = true
 hands_on (Transform fun) = true
 
--- whether some transition fires, of its ends a and b, just these
+-- whether a row of the kind's table fires, of its ends a and b, just these, whatever its condition on the data
 abbrev pub fires_ends : Kind → Bool → Bool → Bool
 fires_ends Sync a b = a && b
 fires_ends Lossy a b = a

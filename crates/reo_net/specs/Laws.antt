@@ -1,10 +1,11 @@
 -- Laws of the definitions, each the contract of a function that does nothing.
-use Rattle.std.specs.Prelude.{◌≡◌, ℕ, ◌<◌, ◌↔◌, List, map, slice_get, Some, Bool, true, IsTrue}
+use Rattle.std.specs.Prelude.{◌≡◌, ℕ, ◌<◌, ◌↔◌, List, map, slice_get, Some, Bool, true, IsTrue, false}
 use Rattle.std.specs.List.{range_with_len}
 use Rattle.reo_net.specs.declared.circuit.Channel.{Channel}
 use Rattle.reo_net.specs.declared.circuit.RawCircuit.{RawCircuit}
 use Rattle.reo_net.specs.declared.circuit.Step.{Step}
 use Rattle.reo_net.specs.Names.{name_count, IsNameOf, IsIncoming, IsOutgoing}
+use Rattle.reo_net.specs.Stand.{stand_of}
 use Rattle.reo_net.specs.Steps.{State, NodeFires}
 use Rattle.reo_net.specs.Runs.{Run}
 use Rattle.reo_net.specs.Regions.{Automaton, OfNode, SameRegion, AreRegions, FiresNoCellTwice, IsConnectedFiring}
@@ -23,6 +24,12 @@ NamesHaveOneNode = (c : RawCircuit) (m n name : ℕ) → IsNameOf c m name → I
 -- no name is incoming and outgoing
 abbrev pub NamesHaveOneDirection : Type 0
 NamesHaveOneDirection = (c : RawCircuit) (m n name : ℕ) → IsIncoming c m name → IsOutgoing c n name → ⊥
+
+-- the calculated stand of a name is the node and the way that the definitions say
+abbrev pub StandsAreTold : Type 0
+StandsAreTold = (c : RawCircuit) (node name : ℕ) →
+    ((stand_of c name ≡ Some (record { node = node; incoming = true })) ↔ IsIncoming c node name)
+    × ((stand_of c name ≡ Some (record { node = node; incoming = false })) ↔ IsOutgoing c node name)
 
 -- the names that there are, are those of the circuit's nodes
 abbrev pub NodesHaveTheNames : Type 0

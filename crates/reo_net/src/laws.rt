@@ -1,16 +1,17 @@
 //! Laws about the definitions, each a function that does nothing.
-ghost use Rattle.reo_net.specs.Laws.{RunsEndOnce, NamesHaveOneNode, NamesHaveOneDirection, NodesHaveTheNames, RanksRiseAlongChannels, RegionsAreOneList, NodesAreRegions, RegionsAreSingle, FiringsAreNodes};
+ghost use Rattle.reo_net.specs.Laws.{RunsEndOnce, NamesHaveOneNode, NamesHaveOneDirection, NodesHaveTheNames, StandsAreTold, RanksRiseAlongChannels, RegionsAreOneList, NodesAreRegions, RegionsAreSingle, FiringsAreNodes};
 
 /// The steps of a run determine the state that it ends in.
 pub fn run_determines_its_final_state()
     ensures { RunsEndOnce }
 {}
 
-/// Each name is of one node, and goes one way there.
+/// Each name is of one node, and goes one way there, which `stand_of` tells.
 pub fn names_have_one_node()
     ensures one { NamesHaveOneNode }
     ensures one_way { NamesHaveOneDirection }
     ensures all { NodesHaveTheNames }
+    ensures told { StandsAreTold }
 {}
 
 /// In an accepted circuit the nodes have ranks, and data go at once from lower to higher ones alone.

@@ -217,7 +217,8 @@ fn copied(alloc: Global, raw: &RawCircuit) -> Result<RawCircuit, AllocError>
     })
 }
 
-/// A copy of the circuit, where it passes the checks. Its time is in proportion to the nodes, channels and ports.
+/// A copy of the circuit, where it passes the checks. For an accepted circuit its time is in proportion to the nodes,
+/// channels and ports, up to sorting; the least node of a refused loop is looked for by what can be reached.
 pub fn check(alloc: Global, raw: &RawCircuit) -> Result<Net, CheckRefusal>
     requires { IsCircuit raw.now }
     ensures copy { IfOk result (λ net. net ≡ raw.now) }

@@ -87,11 +87,13 @@ module _ (c : RawCircuit) (root : Automaton) (names : List ℕ) (w : Web) (web :
       → (link : List ℕ) × FiresAs w places i link
   unfolding at
   link_of_fires i places fires below same moved =
-      let link = (automaton_at i below).links fires moved in
-      (link.0, record {
-        its = subst (Among link.0) (sym (links_are i below)) link.1;
-        same = λ place its. same place its ∙ link.2 place (ap (λ ns. has ns place) (sym (names_are i below)) ∙ its);
-      })
+      let link = (automaton_at i below).links fires moved in (
+        link.0,
+        record {
+          its = subst (Among link.0) (sym (links_are i below)) link.1;
+          same = λ place its. same place its ∙ link.2 place (ap (λ ns. has ns place) (sym (names_are i below)) ∙ its);
+        },
+      )
 
   module _ (places fires : ℕ → Bool) (match : Matches names places fires) where
     fires_at : (place : ℕ) → places place ≡ true → fires (name_at names place) ≡ true
@@ -120,18 +122,20 @@ module _ (c : RawCircuit) (root : Automaton) (names : List ℕ) (w : Web) (web :
       where
         i : (i : ℕ) × (i < length web.region) × (automaton_of c (get_or web.region i 0) ≡ x)
         i = web.all x region
+
         below : i.0 < length w.automata
         below = omega (arith, i.1, web.as_many)
+
         go : (list_any places (names_of w i.0) ≡ true) ⊎ (list_any places (names_of w i.0) ≡ false) → IsQuiet c x fires ⊎ AutomatonFires c x fires
         go (inl moves) =
             let f = any_gives places (names_of w i.0) moves in
             let link = connected.each i.0 (record { name = f.0; its = among_has (names_of w i.0) f.0 f.1; fires = f.2 }) in
             inr (subst (λ y. AutomatonFires c y fires) i.2
-              ((automaton_at i.0 below).fires fires link.0 (subst (Among link.0) (links_are i.0 below) link.1.its) (link_there i.0 link.0 below link.1)))
+            ((automaton_at i.0 below).fires fires link.0 (subst (Among link.0) (links_are i.0 below) link.1.its) (link_there i.0 link.0 below link.1)))
         go (inr quiet) = inl (λ name its.
-          let e = (automaton_at i.0 below).every name (subst (λ y. HasName c y name) (sym i.2) its) in
-          let h = ap (λ ns. has ns e.0) (names_are i.0 below) ∙ e.1 in
-          false_from_ne_true (fires name) (λ fired.
+            let e = (automaton_at i.0 below).every name (subst (λ y. HasName c y name) (sym i.2) its) in
+            let h = ap (λ ns. has ns e.0) (names_are i.0 below) ∙ e.1 in
+            false_from_ne_true (fires name) (λ fired.
             true≢false (sym (any_from places (names_of w i.0) e.0 (has_among (names_of w i.0) e.0 h) (place_fires e.0 (of_place i.0 e.0 h).0 (ap fires e.2 ∙ fired))) ∙ quiet)))
 
     path_there : (i j : ℕ) → Together w places i j → HangsTogether c root fires (at i) (at j)

@@ -74,8 +74,8 @@ module _ (c : RawCircuit) (texts : List (List ℕ)) (old : State) (step : Step) 
   unfolding F
   fires_transition (OfChannel k) name sync its fires = ⊎_elim
       (λ stays. absurd (⊎_elim
-        (λ is_a. none_fires name (ap (datum step) is_a ∙ stays.no_a) fires)
-        (λ is_b. none_fires name (ap (datum step) is_b ∙ stays.no_b) fires) its))
+      (λ is_a. none_fires name (ap (datum step) is_a ∙ stays.no_a) fires)
+      (λ is_b. none_fires name (ap (datum step) is_b ∙ stays.no_b) fires) its))
       (λ moves. (sync.0, sync.1, moves_ends texts sync.0.kind (content c k sync.0.kind old) (datum step (end_a c k)) (datum step (end_b c k)) (content c k sync.0.kind new) moves))
       (product.channels k sync.0 sync.1)
   fires_transition (OfNode node) name sync its fires = ⊎_elim
@@ -157,7 +157,7 @@ module _ (c : RawCircuit) (texts : List (List ℕ)) (old : State) (step : Step) 
       matches = record {
         at = λ place below. same_tests (web_part.0 place) (part (name_at names place)) (λ h. part_from place (name_at names place) h refl)
             (λ h. let g = part_gives (name_at names place) h in
-              subst (λ p. web_part.0 p ≡ true) (one_place names web.rising g.0 place (place_below g.0 g.1) below g.2) g.1);
+            subst (λ p. web_part.0 p ≡ true) (one_place names web.rising g.0 place (place_below g.0 g.1) below g.2) g.1);
         within = place_below;
         every = λ name h. let g = part_gives name h in (g.0, place_below g.0 g.1, g.2);
       }
@@ -183,6 +183,7 @@ module _ (c : RawCircuit) (texts : List (List ℕ)) (old : State) (step : Step) 
         where
           one_home : (i j : ℕ) → i < length web.region → j < length web.region → at c root names w web i ≡ at c root names w web j → i ≡ j
           one_home i j = one_number c root names w web i j
+
           home_is : (i : ℕ) → i < length web.region → at c root names w web i ≡ x → i ≡ home.0
           home_is i in_i is = one_number c root names w web i home.0 in_i home.1 (is ∙ sym home.2)
 

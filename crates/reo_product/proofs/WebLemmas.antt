@@ -61,6 +61,7 @@ rising_bound xs bound rising below = go (length xs) refl
     at_least : (k : ℕ) → k < length xs → k ≤ get_or xs k 0
     at_least zero h = omega arith
     at_least (suc k) h = let r = at_least k (omega arith) in let less = AllPairs-from_increasing xs rising k (suc k) 0 (omega arith) h in omega arith
+
     go : (n : ℕ) → length xs ≡ n → length xs ≤ bound
     go zero is = omega arith
     go (suc n) is = let last = at_least n (omega arith) in let less = below n (omega arith) in omega arith
@@ -98,9 +99,9 @@ cells_less c names i cells more channel found before wider only here = record {
   all = λ k other less at fifo a b in_a in_b at_a at_b. ⊎_elim
       (λ early. wider a b (before.all k other early at fifo a b in_a in_b at_a at_b))
       (λ late.
-        let same : i ≡ k = omega arith in
-        let one : channel ≡ other = some_same (sym found ∙ ap (slice_get c.channels) same ∙ at) in
-        here (ap (λ (x : Channel). is_fifo x.kind) one ∙ fifo) a b in_a in_b (at_a ∙ ap (end_a c) (sym same)) (at_b ∙ ap (end_b c) (sym same)))
+      let same : i ≡ k = omega arith in
+      let one : channel ≡ other = some_same (sym found ∙ ap (slice_get c.channels) same ∙ at) in
+      here (ap (λ (x : Channel). is_fifo x.kind) one ∙ fifo) a b in_a in_b (at_a ∙ ap (end_a c) (sym same)) (at_b ∙ ap (end_b c) (sym same)))
       (cases_lt k i);
 }
   where
@@ -118,10 +119,11 @@ pub cells_some : (c : RawCircuit) (names : List ℕ) → IsStrictlyIncreasing na
 cells_some c names rising i a cells cell channel found is before finds =
     cells_less c names i cells (cells ++ cell ∷ []) channel found before (λ p q at. among_front (p, q) cells (cell ∷ []) at) only
     (λ fifo p q in_p in_q at_p at_q. among_back (p, q) cells (cell ∷ [])
-      (inl (pair cell p q (one_place names rising cell.0 p finds.1 in_p (finds.3 ∙ is ∙ sym at_p)) (one_place names rising cell.1 q finds.2 in_q (finds.4 ∙ ap (λ n. n + 1) is ∙ sym at_q)))))
+    (inl (pair cell p q (one_place names rising cell.0 p finds.1 in_p (finds.3 ∙ is ∙ sym at_p)) (one_place names rising cell.1 q finds.2 in_q (finds.4 ∙ ap (λ n. n + 1) is ∙ sym at_q)))))
   where
     pair : (cell : ℕ × ℕ) (p q : ℕ) → cell.0 ≡ p → cell.1 ≡ q → cell ≡ (p, q)
     pair cell p q e f = ap (λ x. (x, cell.1)) e ∙ ap (λ y. (p, y)) f
+
     new : (p q : ℕ) → cell ≡ (p, q) → IsCell c names p q
     new p q e = record {
       in_a = subst (λ x. x < length names) (ap (λ z. z.0) e) finds.1;
@@ -133,6 +135,7 @@ cells_some c names rising i a cells cell channel found is before finds =
       at_a = ap (name_at names) (sym (ap (λ z. z.0) e)) ∙ finds.3 ∙ is;
       at_b = ap (name_at names) (sym (ap (λ z. z.1) e)) ∙ finds.4 ∙ ap (λ n. n + 1) is;
     }
+
     only : (p q : ℕ) → Among (p, q) (cells ++ cell ∷ []) → IsCell c names p q
     only p q at = elim (append_gives (p, q) cells (cell ∷ []) at) [ inl old ↦ before.only p q old | inr last ↦ elim last [ inl e ↦ new p q e | inr never ↦ elim never [ ] ] ]
 

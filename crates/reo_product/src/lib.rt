@@ -6,5 +6,5 @@ mod places;
 mod table;
 mod web;
 
-pub use table::{Firing, ProductRefusal, RegionTable, table_of_automata};
 pub use laws::{steps_split_into_firings, webs_are_regions};
+pub use table::{Firing, ProductRefusal, RegionTable, table_of_automata};

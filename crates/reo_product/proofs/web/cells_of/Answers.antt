@@ -16,12 +16,12 @@ loop-number-preserved c =
     let i = c.loop-number.number in
     let channel = c.index-channels-number.result in
     let found : slice_get net.channels i ≡ Some channel =
-        subst (λ (all : List Channel). slice_get all i ≡ Some channel) c.channels-channels.ensures.channels
-        (slice_get_read c.channels-channels.result.now (length c.channels-channels.result.now) i channel refl c.loop-number-test.true c.index-channels-number.is) in
+    subst (λ (all : List Channel). slice_get all i ≡ Some channel) c.channels-channels.ensures.channels
+    (slice_get_read c.channels-channels.result.now (length c.channels-channels.result.now) i channel refl c.loop-number-test.true c.index-channels-number.is) in
     let a = length c.ports-ports.result.now + 2 * i in
     let is : a ≡ end_a net i = ap (λ (ports : List Port). length ports + 2 * i) c.ports-ports.ensures.ports in
     elim c.match-cell_of.branch [
-        in-Some+in_ok-push w ↦ (
+      | in-Some+in_ok-push w ↦ (
           let finds = subst (λ b. FindsCell names b a (Some w.in-Some.cell)) c.is_fifo.ensures w.in-Some.ensures in
           let more = cells_some net names c.requires.rising i a c.loop-number.cells w.in-Some.cell channel found is c.loop-number.invariant finds in
           subst (AreCells net names (i + 1)) (sym (w.cells-is ∙ w.in_ok-push.ensures.ok)) more)
