@@ -1,5 +1,5 @@
 -- No two vertices stand for the same set.
-use Rattle.std.proofs.Common.{◌≡◌, ◌≢◌, ℕ, zero, suc, ◌+◌, ◌<◌, ◌⊎◌, inl, inr, List, [], ◌∷◌, length, map, Bool, true, false, not, cond, ◌&&◌, Option, Some, None, is_some, refl, sym, ◌∙◌, subst, arith}
+use Rattle.std.proofs.Common.{◌≡◌, ℕ, zero, suc, ◌+◌, ◌<◌, ◌⊎◌, inl, inr, List, [], ◌∷◌, length, map, Bool, true, false, not, cond, ◌&&◌, Option, Some, None, is_some, refl, sym, ◌∙◌, subst, arith}
 use Rattle.std.specs.Prelude.{nat_lt, flat_map, filter}
 use Rattle.std.specs.List.{range_with_len}
 use Rattle.std.proofs.lemmas.Bool.{false≢true, true≢false, cases_Bool, false_from_ne_true}
@@ -51,6 +51,7 @@ module _ (w : Web) (is_web : IsWeb w) (F : ℕ → Bool) where
       where
         not_its : (link : List ℕ) (name : ℕ) → has (names_of w x) name ≡ false → Among link (links_of w x) → has link name ≡ false
         not_its link name foreign its = false_from_ne_true (has link name) (λ is. true≢false (sym (is_web.own x link its name is) ∙ foreign))
+
         at_name : (let move_a : Move = record { automaton = x; fires = one } in Among move_a a) → (let move_b : Move = record { automaton = x; fires = other } in Among move_b b)
             → IsSound w root a → IsSound w root b → (name : ℕ) → (has (names_of w x) name ≡ true) ⊎ (has (names_of w x) name ≡ false) → has one name ≡ has other name
         at_name at_a at_b sound_a sound_b name (inl its) =

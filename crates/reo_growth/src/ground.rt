@@ -37,13 +37,7 @@ fn mark_all_open(
 
 /// Marks the list that an automaton with one of its links makes of another list, where it is the least that can be open,
 /// and tells before which automaton none is open then.
-pub fn enter(
-    ground: &Ground,
-    x: usize,
-    link: &[u32],
-    marks: &[Mark],
-    wider: &mut [Mark],
-) -> usize
+pub fn enter(ground: &Ground, x: usize, link: &[u32], marks: &[Mark], wider: &mut [Mark]) -> usize
     requires ground { IsGround ground.now }
     requires within { x < length ground.now.web.automata }
     requires its { Among link.now (links_of ground.now.web x) }

@@ -1,16 +1,14 @@
 -- What is connected in the web of a region is a connected firing of the region.
-use Rattle.std.proofs.Common.{◌≡◌, ℕ, ◌+◌, ◌-◌, ◌<◌, ◌≤◌, ◌⊎◌, inl, inr, ⊎_elim, List, [], ◌∷◌, length, get_or, slice_get, Bool, true, false, cond, Option, Some, None, refl, sym, ◌∙◌, ap, subst, arith}
+use Rattle.std.proofs.Common.{◌≡◌, ℕ, ◌-◌, ◌<◌, ◌⊎◌, inl, inr, ⊎_elim, List, [], length, get_or, Bool, true, false, cond, refl, sym, ◌∙◌, ap, subst, arith}
 use Rattle.std.specs.Prelude.{nat_lt}
 use Rattle.std.specs.List.{list_any}
 use Rattle.std.specs.Option.{option_map_or}
 use Rattle.std.specs.List.Sorted.{IsStrictlyIncreasing}
-use Rattle.std.proofs.lemmas.Bool.{false≢true, true≢false, cases_Bool, cases_order, cases_lt, ltb-false, false_from_ne_true}
+use Rattle.std.proofs.lemmas.Bool.{true≢false, cases_Bool, cases_order, ltb-false, false_from_ne_true}
 use Rattle.std.proofs.lemmas.Option.{slice_get-get_or}
 use Rattle.std.proofs.lemmas.List.Kept.{AllPairs-from_increasing}
-use Rattle.reo_net.specs.declared.circuit.Channel.{Channel}
 use Rattle.reo_net.specs.declared.circuit.RawCircuit.{RawCircuit}
 use Rattle.reo_net.specs.Names.{end_a, end_b}
-use Rattle.reo_net.specs.Kind.{is_fifo}
 use Rattle.reo_net.specs.Regions.{Automaton, OfChannel, OfNode, automaton_number, HasName, SameRegion, AutomatonFires, IsQuiet, HangsTogether, Moves, IsConnectedFiring}
 use Rattle.reo_net.specs.Regions.HangsTogether.{here as together_here, linked as together_linked}
 use Rattle.reo_automata.specs.Template.{automaton_of}
@@ -19,7 +17,7 @@ use Rattle.reo_growth.specs.declared.web.Web.{Web}
 use Rattle.reo_growth.specs.Lists.{has, Among}
 use Rattle.reo_growth.specs.Web.{names_of, links_of, Moves as WebMoves, FiresAs, Together, here, joined, IsConnected}
 use Rattle.reo_growth.proofs.ListLemmas.{any_from, any_gives, has_among, among_has}
-use Rattle.reo_growth.proofs.VertexLemmas.{name_within, link_within}
+use Rattle.reo_growth.proofs.VertexLemmas.{name_within}
 use Rattle.reo_product.specs.RegionWeb.{name_at, LinkFires, IsWebAutomaton, IsRegionWeb}
 use Rattle.reo_product.specs.Laws.{Matches, WebsAreRegions}
 
@@ -33,7 +31,7 @@ one_place xs rising i j in_i in_j same = go (cases_order i j)
     go (inr (inr more)) = let h = AllPairs-from_increasing xs rising j i 0 more in_i in absurd (omega arith)
 
 -- a number is that of its automaton
-number_of : (c : RawCircuit) (n : ℕ) → automaton_number c (automaton_of c n) ≡ n
+pub number_of : (c : RawCircuit) (n : ℕ) → automaton_number c (automaton_of c n) ≡ n
 number_of c n = go (nat_lt n (length c.channels)) refl
   where
     go : (b : Bool) → nat_lt n (length c.channels) ≡ b → automaton_number c (cond b (OfChannel n) (OfNode (n - length c.channels))) ≡ n
@@ -87,11 +85,13 @@ module _ (c : RawCircuit) (root : Automaton) (names : List ℕ) (w : Web) (web :
       → (link : List ℕ) × FiresAs w places i link
   unfolding at
   link_of_fires i places fires below same moved =
-      let link = (automaton_at i below).links fires moved in
-      (link.0, record {
-        its = subst (Among link.0) (sym (links_are i below)) link.1;
-        same = λ place its. same place its ∙ link.2 place (ap (λ ns. has ns place) (sym (names_are i below)) ∙ its);
-      })
+      let link = (automaton_at i below).links fires moved in (
+        link.0,
+        record {
+          its = subst (Among link.0) (sym (links_are i below)) link.1;
+          same = λ place its. same place its ∙ link.2 place (ap (λ ns. has ns place) (sym (names_are i below)) ∙ its);
+        },
+      )
 
   module _ (places fires : ℕ → Bool) (match : Matches names places fires) where
     fires_at : (place : ℕ) → places place ≡ true → fires (name_at names place) ≡ true
@@ -120,18 +120,20 @@ module _ (c : RawCircuit) (root : Automaton) (names : List ℕ) (w : Web) (web :
       where
         i : (i : ℕ) × (i < length web.region) × (automaton_of c (get_or web.region i 0) ≡ x)
         i = web.all x region
+
         below : i.0 < length w.automata
         below = omega (arith, i.1, web.as_many)
+
         go : (list_any places (names_of w i.0) ≡ true) ⊎ (list_any places (names_of w i.0) ≡ false) → IsQuiet c x fires ⊎ AutomatonFires c x fires
         go (inl moves) =
             let f = any_gives places (names_of w i.0) moves in
             let link = connected.each i.0 (record { name = f.0; its = among_has (names_of w i.0) f.0 f.1; fires = f.2 }) in
             inr (subst (λ y. AutomatonFires c y fires) i.2
-              ((automaton_at i.0 below).fires fires link.0 (subst (Among link.0) (links_are i.0 below) link.1.its) (link_there i.0 link.0 below link.1)))
+            ((automaton_at i.0 below).fires fires link.0 (subst (Among link.0) (links_are i.0 below) link.1.its) (link_there i.0 link.0 below link.1)))
         go (inr quiet) = inl (λ name its.
-          let e = (automaton_at i.0 below).every name (subst (λ y. HasName c y name) (sym i.2) its) in
-          let h = ap (λ ns. has ns e.0) (names_are i.0 below) ∙ e.1 in
-          false_from_ne_true (fires name) (λ fired.
+            let e = (automaton_at i.0 below).every name (subst (λ y. HasName c y name) (sym i.2) its) in
+            let h = ap (λ ns. has ns e.0) (names_are i.0 below) ∙ e.1 in
+            false_from_ne_true (fires name) (λ fired.
             true≢false (sym (any_from places (names_of w i.0) e.0 (has_among (names_of w i.0) e.0 h) (place_fires e.0 (of_place i.0 e.0 h).0 (ap fires e.2 ∙ fired))) ∙ quiet)))
 
     path_there : (i j : ℕ) → Together w places i j → HangsTogether c root fires (at i) (at j)

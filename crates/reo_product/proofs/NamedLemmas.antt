@@ -1,5 +1,5 @@
 -- Lists of places as lists of names.
-use Rattle.std.proofs.Common.{◌≡◌, ℕ, ◌+◌, ◌<◌, ◌≤◌, ◌⊎◌, inl, inr, List, [], ◌∷◌, length, map, get_or, Bool, true, false, ◌&&◌, refl, sym, ◌∙◌, ap, subst, arith}
+use Rattle.std.proofs.Common.{◌≡◌, ℕ, ◌+◌, ◌<◌, ◌⊎◌, inl, inr, List, [], ◌∷◌, length, map, get_or, Bool, true, ◌&&◌, refl, sym, ◌∙◌, ap, subst, arith}
 use Rattle.std.specs.Prelude.{nat_lt}
 use Rattle.std.specs.List.{AllByRecursion}
 use Rattle.std.specs.Ordering.{nat_cmp, ordering_then}
@@ -7,7 +7,7 @@ use Rattle.std.specs.declared.cmp.Ordering.TheVariants.{Less, Equal, Greater}
 use Rattle.std.specs.Cmp.{nat_cmp_is}
 use Rattle.std.specs.Cmp.Lexicographic.{slice_cmp}
 use Rattle.std.specs.List.Sorted.{IsStrictlyIncreasing, IsStrictlySortedBy}
-use Rattle.std.proofs.lemmas.Bool.{and_parts, and_from, cases_order, lt-ltb, ltb-true}
+use Rattle.std.proofs.lemmas.Bool.{and_parts, cases_order, lt-ltb, ltb-true}
 use Rattle.std.proofs.lemmas.List.{length-map, get_or-map}
 use Rattle.std.proofs.lemmas.List.Kept.{AllPairs-from_increasing}
 use Rattle.reo_net.specs.declared.circuit.RawCircuit.{RawCircuit}
@@ -21,19 +21,20 @@ use Rattle.reo_growth.specs.declared.table.TableRefusal.TheVariants.{TooLarge as
 use Rattle.reo_growth.specs.Table.{table_cmp, AreFirings as AreWebFirings, HasFirings as HasWebFirings, IsTableOf as IsWebTable, Refuses as WebRefuses}
 use Rattle.reo_growth.proofs.ListLemmas.{same_tests, has_among, among_has, among_map, map_gives, among_at}
 use Rattle.reo_product.specs.RegionWeb.{name_at, IsRegionWeb}
-use Rattle.reo_product.specs.Table.{IsFiring, AreFirings, HasFirings, HasGrowth, IsTableOf, Refuses}
+use Rattle.reo_product.specs.Table.{IsFiring, AreFirings, HasFirings, IsTableOf, Refuses}
 use Rattle.reo_product.specs.Refusal.{refusal_of}
 use Rattle.reo_product.specs.Laws.{Matches}
 use Rattle.reo_product.proofs.BridgeLemmas.{one_place, of_place, of_name, to_region, from_region}
 
 once_injective : {A B : Type 0} (f : A → B) (rows : List A) → ((r s : A) → Among r rows → Among s rows → f r ≡ f s → r ≡ s) → ((x : A) → AtMostOne (λ o. o ≡ x) rows) → (y : B) → AtMostOne (λ o. o ≡ y) (map f rows)
 once_injective f [] inject once y = tt
-once_injective f (r ∷ rs) inject once y =
-    (λ is z at also.
+once_injective f (r ∷ rs) inject once y = (
+  λ is z at also.
       let m = map_gives f rs z at in
       let same = inject r m.0 (inl refl) (inr m.1) (is ∙ sym also ∙ sym m.2) in
       (once r).0 refl m.0 m.1 (sym same),
-      once_injective f rs (λ r s in_r in_s. inject r s (inr in_r) (inr in_s)) (λ x. (once x).1) y)
+  once_injective f rs (λ r s in_r in_s. inject r s (inr in_r) (inr in_s)) (λ x. (once x).1) y,
+)
 
 module _ (names : List ℕ) (rising : IsStrictlyIncreasing names) where
   named : List ℕ → List ℕ
@@ -113,8 +114,8 @@ module _ (c : RawCircuit) (root : Automaton) (names : List ℕ) (w : Web) (web :
     at = λ place below. same_tests (has row place) (has (map (name_at names) row) (name_at names place))
         (λ h. among_has (map (name_at names) row) (name_at names place) (among_map (name_at names) row place (has_among row place h)))
         (λ h. let m = map_gives (name_at names) row (name_at names place) (has_among (map (name_at names) row) (name_at names place) h) in
-          let same = one_place names web.rising m.0 place (row_within row connected m.0 m.1) below m.2 in
-          among_has row place (subst (λ p. Among p row) same m.1));
+        let same = one_place names web.rising m.0 place (row_within row connected m.0 m.1) below m.2 in
+        among_has row place (subst (λ p. Among p row) same m.1));
     within = λ place h. row_within row connected place (has_among row place h);
     every = λ name h. let m = map_gives (name_at names) row name (has_among (map (name_at names) row) name h) in (m.0, row_within row connected m.0 m.1, m.2);
   }
@@ -145,16 +146,19 @@ module _ (c : RawCircuit) (root : Automaton) (names : List ℕ) (w : Web) (web :
         });
     all = λ fires firing.
         let match = matches_fires fires firing in
-        let f = all.all (places_of fires) (from_region c root names w web (places_of fires) fires match firing) in
-        (map (name_at names) f.0, among_map (map (name_at names)) rows f.0 f.1, λ name. same_tests (has (map (name_at names) f.0) name) (fires name)
-          (λ h.
-            let m = map_gives (name_at names) f.0 name (has_among (map (name_at names) f.0) name h) in
-            let here = sym (f.2 m.0) ∙ among_has f.0 m.0 m.1 in
-            ap fires (sym m.2) ∙ sym (match.at m.0 (match.within m.0 here)) ∙ here)
-          (λ h.
-            let p = match.every name h in
-            let here = f.2 p.0 ∙ match.at p.0 p.1 ∙ ap fires p.2 ∙ h in
-            among_has (map (name_at names) f.0) name (subst (λ n. Among n (map (name_at names) f.0)) p.2 (among_map (name_at names) f.0 p.0 (has_among f.0 p.0 here)))));
+        let f = all.all (places_of fires) (from_region c root names w web (places_of fires) fires match firing) in (
+          map (name_at names) f.0,
+          among_map (map (name_at names)) rows f.0 f.1,
+          λ name. same_tests (has (map (name_at names) f.0) name) (fires name)
+              (λ h.
+              let m = map_gives (name_at names) f.0 name (has_among (map (name_at names) f.0) name h) in
+              let here = sym (f.2 m.0) ∙ among_has f.0 m.0 m.1 in
+              ap fires (sym m.2) ∙ sym (match.at m.0 (match.within m.0 here)) ∙ here)
+              (λ h.
+              let p = match.every name h in
+              let here = f.2 p.0 ∙ match.at p.0 p.1 ∙ ap fires p.2 ∙ h in
+              among_has (map (name_at names) f.0) name (subst (λ n. Among n (map (name_at names) f.0)) p.2 (among_map (name_at names) f.0 p.0 (has_among f.0 p.0 here)))),
+        );
     once = once_injective (map (name_at names)) rows (λ r s in_r in_s is. inject names web.rising r s (row_within r (all.only r in_r).connected) (row_within s (all.only s in_s).connected) is) all.once;
   }
 

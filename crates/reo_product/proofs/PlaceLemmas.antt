@@ -1,5 +1,5 @@
 -- Lists of names and of their places, as they grow.
-use Rattle.std.proofs.Common.{◌≡◌, ℕ, zero, suc, ◌+◌, ◌<◌, ◌≤◌, List, [], ◌∷◌, ◌++◌, length, map, take, get_or, All, slice_get, Option, Some, None, ◌⊎◌, inl, inr, Result, MatchResult, Ok, Err, refl, sym, ◌∙◌, ap, subst, arith}
+use Rattle.std.proofs.Common.{◌≡◌, ℕ, zero, suc, ◌+◌, ◌<◌, ◌≤◌, List, [], ◌∷◌, ◌++◌, length, take, get_or, slice_get, Some, inl, inr, Err, refl, sym, ◌∙◌, ap, subst, arith}
 use Rattle.std.specs.Ordering.{nat_cmp}
 use Rattle.std.specs.List.Sorted.{IsStrictlyIncreasing, IsBinarySearchResult}
 use Rattle.std.proofs.lemmas.Bool.{cases_order, cases_lt}
@@ -38,14 +38,17 @@ paired_length R (u ∷ us) (v ∷ vs) all = let h = paired_length R us vs all.1 
 
 not_down : (xs : List ℕ) → IsStrictlyIncreasing xs → (i j : ℕ) → i ≤ j → j < length xs → get_or xs i 0 ≤ get_or xs j 0
 not_down xs rising i j before within = elim (cases_order i j) [
-    inl same ↦ (let e = ap (λ k. get_or xs k 0) same in omega arith)
+  | inl same ↦ (let e = ap (λ k. get_or xs k 0) same in omega arith)
   | inr other ↦ elim other [
-      inl less ↦ (let h = AllPairs-from_increasing xs rising i j 0 less within in omega arith)
-    | inr more ↦ absurd (omega arith) ] ]
+    | inl less ↦ (let h = AllPairs-from_increasing xs rising i j 0 less within in omega arith)
+    | inr more ↦ absurd (omega arith)
+  ]
+]
 
 pub not_found : (xs : List ℕ) (x i : ℕ) → IsStrictlyIncreasing xs → IsBinarySearchResult (λ y. nat_cmp y x) xs (Err i) → (place : ℕ) → place < length xs → name_at xs place ≡ x → ⊥
 not_found xs x i rising result place within is =
     let s = searched xs x (Err i) result (not_down xs rising) in
     elim (cases_lt place i) [
-        inl less ↦ (let h = s.1 place less in absurd (omega arith))
-      | inr more ↦ (let h = s.2 place more within in absurd (omega arith)) ]
+      | inl less ↦ (let h = s.1 place less in absurd (omega arith))
+      | inr more ↦ (let h = s.2 place more within in absurd (omega arith))
+    ]

@@ -1,17 +1,17 @@
 -- A template by places is an automaton of the web.
-use Rattle.std.proofs.Common.{◌≡◌, ℕ, zero, suc, ◌+◌, ◌<◌, ◌≤◌, ◌⊎◌, inl, inr, List, [], ◌∷◌, ◌++◌, length, map, get_or, slice_get, All, Option, Some, None, Bool, true, false, refl, sym, ◌∙◌, ap, subst, arith}
+use Rattle.std.proofs.Common.{◌≡◌, ℕ, zero, suc, ◌<◌, inl, inr, List, [], ◌∷◌, length, map, slice_get, Some, Bool, true, refl, sym, ◌∙◌, ap, subst, arith}
 use Rattle.std.specs.List.Sorted.{IsStrictlyIncreasing}
 use Rattle.reo_net.specs.declared.circuit.RawCircuit.{RawCircuit}
 use Rattle.reo_net.specs.Regions.{Automaton, HasName, AutomatonFires}
 use Rattle.reo_automata.specs.declared.template.Link.{Link}
 use Rattle.reo_automata.specs.declared.template.Template.{Template}
-use Rattle.reo_automata.specs.Template.{Fires, IsTemplate}
+use Rattle.reo_automata.specs.Template.{IsTemplate}
 use Rattle.reo_growth.specs.declared.web.Automaton.{Automaton as WebAutomaton}
 use Rattle.reo_growth.specs.Lists.{has, Among}
-use Rattle.reo_growth.specs.Web.{Differ, AreApart}
+use Rattle.reo_growth.specs.Web.{AreApart}
 use Rattle.reo_growth.proofs.ListLemmas.{same_tests, has_among, among_has, among_map, map_gives, all_among}
 use Rattle.reo_product.specs.RegionWeb.{name_at, LinkFires, IsWebAutomaton}
-use Rattle.reo_product.specs.Places.{ArePlacesOf, AreEachPlacesOf, ArePaired, IsPlacedTemplate}
+use Rattle.reo_product.specs.Places.{ArePlacesOf, ArePaired, IsPlacedTemplate}
 use Rattle.reo_product.proofs.BridgeLemmas.{one_place}
 
 pub among_index : {A : Type 0} (xs : List A) (x : A) → Among x xs → (i : ℕ) × (slice_get xs i ≡ Some x)
@@ -51,9 +51,10 @@ index_map f (y ∷ ys) (suc i) x at = index_map f ys i x at
 
 apart_from : (links : List (List ℕ)) → ((i j : ℕ) (one other : List ℕ) → slice_get links i ≡ Some one → slice_get links j ≡ Some other → ((place : ℕ) → has one place ≡ has other place) → i ≡ j) → AreApart links
 apart_from [] once = tt
-apart_from (link ∷ links) once =
-    (λ other at same. let j = among_index links other at in absurd (zero-suc j.0 (once 0 (suc j.0) link other refl j.1 same)),
-      apart_from links (λ i j one other at_i at_j same. let e = once (suc i) (suc j) one other at_i at_j same in omega arith))
+apart_from (link ∷ links) once = (
+  λ other at same. let j = among_index links other at in absurd (zero-suc j.0 (once 0 (suc j.0) link other refl j.1 same)),
+  apart_from links (λ i j one other at_i at_j same. let e = once (suc i) (suc j) one other at_i at_j same in omega arith),
+)
   where
     zero-suc : (n : ℕ) → 0 ≡ suc n → ⊥
     zero-suc n e = omega arith
@@ -66,9 +67,9 @@ module _ (names : List ℕ) (rising : IsStrictlyIncreasing names) where
   has_places list places are place below = same_tests (has places place) (has list (name_at names place))
       (λ h. among_has list (name_at names place) (subst (Among (name_at names place)) are.named (among_map (name_at names) places place (has_among places place h))))
       (λ h.
-        let m = map_gives (name_at names) places (name_at names place) (subst (Among (name_at names place)) (sym are.named) (has_among list (name_at names place) h)) in
-        let same = one_place names rising m.0 place (all_among (λ place. place < length names) places are.within m.0 m.1) below m.2 in
-        among_has places place (subst (λ p. Among p places) same m.1))
+      let m = map_gives (name_at names) places (name_at names place) (subst (Among (name_at names place)) (sym are.named) (has_among list (name_at names place) h)) in
+      let same = one_place names rising m.0 place (all_among (λ place. place < length names) places are.within m.0 m.1) below m.2 in
+      among_has places place (subst (λ p. Among p places) same m.1))
 
   place_of_name : (list places : List ℕ) → ArePlacesOf names list places → (name : ℕ) → has list name ≡ true → (place : ℕ) × (has places place ≡ true) × (name_at names place ≡ name)
   place_of_name list places are name h =
@@ -103,9 +104,14 @@ module _ (names : List ℕ) (rising : IsStrictlyIncreasing names) where
     fires F link at same =
         let i = among_index a.links link at in
         let l = link_of i.0 link i.1 in
-        (is.fires F).1 (i.0, l.0, l.1, λ name its.
-          let p = every name its in
-          ap F (sym p.2) ∙ same p.0 p.1 ∙ has_places l.0.fires link l.2 p.0 (below p.0 p.1) ∙ ap (has l.0.fires) p.2)
+        (is.fires F).1 (
+          i.0,
+          l.0,
+          l.1,
+          λ name its.
+              let p = every name its in
+              ap F (sym p.2) ∙ same p.0 p.1 ∙ has_places l.0.fires link l.2 p.0 (below p.0 p.1) ∙ ap (has l.0.fires) p.2,
+        )
 
     links : (F : ℕ → Bool) → AutomatonFires c x F → (link : List ℕ) × Among link a.links × LinkFires names a link F
     links F moved =
@@ -139,9 +145,9 @@ module _ (names : List ℕ) (rising : IsStrictlyIncreasing names) where
 
     apart : AreApart a.links
     apart = apart_from a.links (λ i j one other at_i at_j same.
-      let f = link_of i one at_i in
-      let g = link_of j other at_j in
-      is.once i j f.0 g.0 f.1 g.1 (λ name. same_tests (has f.0.fires name) (has g.0.fires name)
+        let f = link_of i one at_i in
+        let g = link_of j other at_j in
+        is.once i j f.0 g.0 f.1 g.1 (λ name. same_tests (has f.0.fires name) (has g.0.fires name)
         (sets_same f.0 g.0 one other f.2 g.2 same name) (sets_same g.0 f.0 other one g.2 f.2 (λ place. sym (same place)) name)))
 
     pub placed_automaton : IsWebAutomaton c names x a

@@ -1,8 +1,8 @@
 -- A product step splits, region by region, into connected firings.
-use Rattle.std.proofs.Common.{◌≡◌, ℕ, ◌+◌, ◌<◌, ◌≤◌, ◌⊎◌, inl, inr, ⊎_elim, List, [], ◌∷◌, length, slice_get, Bool, true, false, not, ◌&&◌, ◌||◌, Option, Some, None, is_some, refl, sym, ◌∙◌, ap, subst, arith}
-use Rattle.std.specs.Prelude.{nat_eq, nat_lt}
+use Rattle.std.proofs.Common.{◌≡◌, ℕ, ◌<◌, ⊎_elim, List, length, slice_get, Bool, true, ◌&&◌, Option, Some, None, is_some, refl, sym, ◌∙◌, ap, subst, arith}
+use Rattle.std.specs.Prelude.{nat_eq}
 use Rattle.std.specs.List.{list_any, range_with_len}
-use Rattle.std.proofs.lemmas.Bool.{false≢true, true≢false, and_parts, and_from, lt-ltb, ltb-true, eqb-true, eq-eqb}
+use Rattle.std.proofs.lemmas.Bool.{false≢true, and_parts, and_from, eqb-true, eq-eqb}
 use Rattle.reo_value.specs.declared.value.Value.{Value}
 use Rattle.reo_net.specs.declared.kind.Kind.{Kind}
 use Rattle.reo_net.specs.declared.kind.Kind.TheVariants.{Sync, Lossy, Drain, Fifo, Filter, Transform}
@@ -10,17 +10,17 @@ use Rattle.reo_net.specs.declared.circuit.Channel.{Channel}
 use Rattle.reo_net.specs.declared.circuit.RawCircuit.{RawCircuit}
 use Rattle.reo_net.specs.declared.circuit.Step.{Step}
 use Rattle.reo_net.specs.Names.{end_a, end_b}
-use Rattle.reo_net.specs.Kind.{is_fifo, fires_ends, ChannelStep, Buffers}
-use Rattle.reo_net.specs.Steps.{State, datum, fires_in, content, ProductStep, ChannelStays, ChannelMoves}
-use Rattle.reo_net.specs.Regions.{Automaton, OfChannel, OfNode, HasName, IsSynchronous, SameRegion, AutomatonFires, HangsTogether, Moves, IsConnectedFiring}
+use Rattle.reo_net.specs.Kind.{is_fifo, fires_ends, ChannelStep}
+use Rattle.reo_net.specs.Steps.{State, datum, fires_in, content, ProductStep}
+use Rattle.reo_net.specs.Regions.{Automaton, OfChannel, OfNode, HasName, IsSynchronous, SameRegion, AutomatonFires, HangsTogether, Moves}
 use Rattle.reo_net.specs.Regions.SameRegion.{here as region_here, linked as region_linked}
 use Rattle.reo_net.specs.Regions.HangsTogether.{here as together_here, linked as together_linked}
 use Rattle.reo_growth.specs.declared.web.Web.{Web}
-use Rattle.reo_growth.specs.Lists.{has, Among}
-use Rattle.reo_growth.specs.Web.{names_of, Moves as WebMoves, FiresAs}
+use Rattle.reo_growth.specs.Lists.{has}
+use Rattle.reo_growth.specs.Web.{names_of}
 use Rattle.reo_growth.specs.Growth.{places}
 use Rattle.reo_growth.specs.Laws.{IsJointFiring, IsPart as IsWebPart}
-use Rattle.reo_growth.proofs.ListLemmas.{same_tests, any_from, any_gives, among_range, range_gives}
+use Rattle.reo_growth.proofs.ListLemmas.{same_tests, any_from, any_gives, among_range}
 use Rattle.reo_growth.proofs.VertexLemmas.{name_within}
 use Rattle.reo_growth.proofs.SplitLemmas.{splits}
 use Rattle.reo_product.specs.RegionWeb.{name_at, IsRegionWeb}
@@ -74,8 +74,8 @@ module _ (c : RawCircuit) (texts : List (List ℕ)) (old : State) (step : Step) 
   unfolding F
   fires_transition (OfChannel k) name sync its fires = ⊎_elim
       (λ stays. absurd (⊎_elim
-        (λ is_a. none_fires name (ap (datum step) is_a ∙ stays.no_a) fires)
-        (λ is_b. none_fires name (ap (datum step) is_b ∙ stays.no_b) fires) its))
+      (λ is_a. none_fires name (ap (datum step) is_a ∙ stays.no_a) fires)
+      (λ is_b. none_fires name (ap (datum step) is_b ∙ stays.no_b) fires) its))
       (λ moves. (sync.0, sync.1, moves_ends texts sync.0.kind (content c k sync.0.kind old) (datum step (end_a c k)) (datum step (end_b c k)) (content c k sync.0.kind new) moves))
       (product.channels k sync.0 sync.1)
   fires_transition (OfNode node) name sync its fires = ⊎_elim
@@ -157,7 +157,7 @@ module _ (c : RawCircuit) (texts : List (List ℕ)) (old : State) (step : Step) 
       matches = record {
         at = λ place below. same_tests (web_part.0 place) (part (name_at names place)) (λ h. part_from place (name_at names place) h refl)
             (λ h. let g = part_gives (name_at names place) h in
-              subst (λ p. web_part.0 p ≡ true) (one_place names web.rising g.0 place (place_below g.0 g.1) below g.2) g.1);
+            subst (λ p. web_part.0 p ≡ true) (one_place names web.rising g.0 place (place_below g.0 g.1) below g.2) g.1);
         within = place_below;
         every = λ name h. let g = part_gives name h in (g.0, place_below g.0 g.1, g.2);
       }
@@ -183,6 +183,7 @@ module _ (c : RawCircuit) (texts : List (List ℕ)) (old : State) (step : Step) 
         where
           one_home : (i j : ℕ) → i < length web.region → j < length web.region → at c root names w web i ≡ at c root names w web j → i ≡ j
           one_home i j = one_number c root names w web i j
+
           home_is : (i : ℕ) → i < length web.region → at c root names w web i ≡ x → i ≡ home.0
           home_is i in_i is = one_number c root names w web i home.0 in_i home.1 (is ∙ sym home.2)
 

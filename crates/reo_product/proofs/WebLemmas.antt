@@ -1,5 +1,5 @@
 -- The web of a region, put together.
-use Rattle.std.proofs.Common.{◌≡◌, ℕ, zero, suc, ◌+◌, ◌*◌, ◌-◌, cond, ◌<◌, ◌≤◌, ◌^◌, ◌⊎◌, inl, inr, ⊎_elim, List, [], ◌∷◌, ◌++◌, length, map, take, get_or, slice_get, All, Contains, Option, Some, None, Bool, true, false, eqb, refl, sym, ◌∙◌, ap, subst, arith}
+use Rattle.std.proofs.Common.{◌≡◌, ℕ, zero, suc, ◌+◌, ◌-◌, cond, ◌<◌, ◌≤◌, ◌^◌, ◌⊎◌, inl, inr, ⊎_elim, List, [], ◌∷◌, ◌++◌, length, get_or, slice_get, All, Contains, Some, None, Bool, true, false, eqb, refl, sym, ◌∙◌, ap, subst, arith}
 use Rattle.std.specs.Prelude.{flat_map, nat_lt}
 use Rattle.std.specs.List.{dedup}
 use Rattle.std.specs.Option.{option_map_or}
@@ -16,7 +16,6 @@ use Rattle.reo_net.specs.Names.{end_a, end_b, name_count}
 use Rattle.reo_net.specs.Kind.{is_fifo}
 use Rattle.reo_net.specs.Checks.{IsChecked}
 use Rattle.reo_net.specs.Regions.{Automaton, OfChannel, OfNode, HasName}
-use Rattle.reo_automata.specs.declared.template.Link.{Link}
 use Rattle.reo_automata.specs.declared.template.Template.{Template}
 use Rattle.reo_automata.specs.Template.{automaton_of, IsTemplate}
 use Rattle.reo_growth.specs.declared.web.Automaton.{Automaton as WebAutomaton}
@@ -29,10 +28,10 @@ use Rattle.reo_growth.proofs.VertexLemmas.{name_within, link_within}
 use Rattle.reo_growth.proofs.ListLemmas.{has_among, among_has, among_at, among_place, among_flat_map, flat_map_gives, append_gives, among_front, among_back}
 use Rattle.reo_product.specs.RegionWeb.{name_at, IsWebAutomaton, IsRegionWeb}
 use Rattle.reo_product.specs.Places.{AreKnown, ArePaired, IsPlacedTemplate, IsKnownTemplate, AreTemplates, AreNamesOf, IsCell, AreCells, FindsCell, AreRegionAutomata}
-use Rattle.reo_net.proofs.NameLemmas.{end_a_below, end_b_below, name_below}
+use Rattle.reo_net.proofs.NameLemmas.{name_below}
 use Rattle.reo_product.proofs.BridgeLemmas.{one_place}
 use Rattle.reo_product.proofs.PlaceLemmas.{paired_length}
-use Rattle.reo_product.proofs.PlacedLemmas.{among_index, index_among, left_partner, right_partner, placed_automaton}
+use Rattle.reo_product.proofs.PlacedLemmas.{among_index, index_among, left_partner, placed_automaton}
 
 contains_among : (xs : List ℕ) (x : ℕ) → Contains xs x → Among x xs
 contains_among xs x h = subst (λ y. Among y xs) h.2 (among_at xs h.0 x h.1)
@@ -61,6 +60,7 @@ rising_bound xs bound rising below = go (length xs) refl
     at_least : (k : ℕ) → k < length xs → k ≤ get_or xs k 0
     at_least zero h = omega arith
     at_least (suc k) h = let r = at_least k (omega arith) in let less = AllPairs-from_increasing xs rising k (suc k) 0 (omega arith) h in omega arith
+
     go : (n : ℕ) → length xs ≡ n → length xs ≤ bound
     go zero is = omega arith
     go (suc n) is = let last = at_least n (omega arith) in let less = below n (omega arith) in omega arith
@@ -98,9 +98,9 @@ cells_less c names i cells more channel found before wider only here = record {
   all = λ k other less at fifo a b in_a in_b at_a at_b. ⊎_elim
       (λ early. wider a b (before.all k other early at fifo a b in_a in_b at_a at_b))
       (λ late.
-        let same : i ≡ k = omega arith in
-        let one : channel ≡ other = some_same (sym found ∙ ap (slice_get c.channels) same ∙ at) in
-        here (ap (λ (x : Channel). is_fifo x.kind) one ∙ fifo) a b in_a in_b (at_a ∙ ap (end_a c) (sym same)) (at_b ∙ ap (end_b c) (sym same)))
+      let same : i ≡ k = omega arith in
+      let one : channel ≡ other = some_same (sym found ∙ ap (slice_get c.channels) same ∙ at) in
+      here (ap (λ (x : Channel). is_fifo x.kind) one ∙ fifo) a b in_a in_b (at_a ∙ ap (end_a c) (sym same)) (at_b ∙ ap (end_b c) (sym same)))
       (cases_lt k i);
 }
   where
@@ -118,10 +118,11 @@ pub cells_some : (c : RawCircuit) (names : List ℕ) → IsStrictlyIncreasing na
 cells_some c names rising i a cells cell channel found is before finds =
     cells_less c names i cells (cells ++ cell ∷ []) channel found before (λ p q at. among_front (p, q) cells (cell ∷ []) at) only
     (λ fifo p q in_p in_q at_p at_q. among_back (p, q) cells (cell ∷ [])
-      (inl (pair cell p q (one_place names rising cell.0 p finds.1 in_p (finds.3 ∙ is ∙ sym at_p)) (one_place names rising cell.1 q finds.2 in_q (finds.4 ∙ ap (λ n. n + 1) is ∙ sym at_q)))))
+    (inl (pair cell p q (one_place names rising cell.0 p finds.1 in_p (finds.3 ∙ is ∙ sym at_p)) (one_place names rising cell.1 q finds.2 in_q (finds.4 ∙ ap (λ n. n + 1) is ∙ sym at_q)))))
   where
     pair : (cell : ℕ × ℕ) (p q : ℕ) → cell.0 ≡ p → cell.1 ≡ q → cell ≡ (p, q)
     pair cell p q e f = ap (λ x. (x, cell.1)) e ∙ ap (λ y. (p, y)) f
+
     new : (p q : ℕ) → cell ≡ (p, q) → IsCell c names p q
     new p q e = record {
       in_a = subst (λ x. x < length names) (ap (λ z. z.0) e) finds.1;
@@ -133,6 +134,7 @@ cells_some c names rising i a cells cell channel found is before finds =
       at_a = ap (name_at names) (sym (ap (λ z. z.0) e)) ∙ finds.3 ∙ is;
       at_b = ap (name_at names) (sym (ap (λ z. z.1) e)) ∙ finds.4 ∙ ap (λ n. n + 1) is;
     }
+
     only : (p q : ℕ) → Among (p, q) (cells ++ cell ∷ []) → IsCell c names p q
     only p q at = elim (append_gives (p, q) cells (cell ∷ []) at) [ inl old ↦ before.only p q old | inr last ↦ elim last [ inl e ↦ new p q e | inr never ↦ elim never [ ] ] ]
 

@@ -22,11 +22,7 @@ pub struct RegionWeb {
 }
 
 /// The templates of automata.
-fn templates_of(
-    alloc: Global,
-    net: &Net,
-    automata: &[u32],
-) -> Result<Vec<Template>, AllocError>
+fn templates_of(alloc: Global, net: &Net, automata: &[u32]) -> Result<Vec<Template>, AllocError>
     requires { All (λ x. x < length net.now.channels + net.now.nodes) automata.now }
     ensures { IfOk result (λ templates. AreTemplates net.now automata.now templates.items) }
 {

@@ -1,4 +1,4 @@
-use Rattle.std.proofs.Common.{◌≡◌, ℕ, ◌+◌, Bool, ◌||◌, length, take, get_or, refl, subst, ◌∙◌}
+use Rattle.std.proofs.Common.{◌≡◌, ℕ, ◌+◌, Bool, ◌||◌, take, get_or, refl, subst, ◌∙◌}
 use Rattle.std.proofs.lemmas.List.{get_or_default, take_all}
 use Rattle.reo_growth.specs.Lists.{has}
 use Rattle.reo_growth.specs.Marks.{IsBefore, is_held, opened}
@@ -15,7 +15,7 @@ loop-name-preserved c =
     let before : ℕ → Bool = is_held c.args.holders.now (take i link) in
     let after : ℕ → Bool = is_held c.args.holders.now (take (i + 1) link) in
     let either : (k : ℕ) → after k ≡ (before k || has c.as_slice.result.now k) =
-        λ k. is_held_more c.args.holders.now link i k name c.as_slice.result.now c.loop-name-test.true refl (c.as_slice.ensures ∙ c.index-holders-name.is ∙ get_or_default c.args.holders.now name _ _ named) in
+    λ k. is_held_more c.args.holders.now link i k name c.as_slice.result.now c.loop-name-test.true refl (c.as_slice.ensures ∙ c.index-holders-name.is ∙ get_or_default c.args.holders.now name _ _ named) in
     record {
       changed = changes_twice opened opened_again before (has c.as_slice.result.now) after either
           c.args.automata.now c.loop-name.automata c.mark_open-least.new.automata c.loop-name.invariant.changed c.mark_open-least.ensures.opened;

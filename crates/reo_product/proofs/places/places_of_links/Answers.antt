@@ -21,8 +21,8 @@ loop-link-preserved c =
     let list = (get_or links i c.link-item.result).fires in
     subst (AreEachPlacesOf names (fires (take (i + 1) links))) (sym c.in_ok-push.ensures.ok)
     (subst (λ lists. AreEachPlacesOf names lists (c.loop-link.placed ++ places ∷ [])) (sym more)
-      (paired_push (ArePlacesOf names) (fires (take i links)) c.loop-link.placed list places c.loop-link.invariant
-        (subst (λ list. ArePlacesOf names list places) here c.in_ok-places_of.ensures)))
+    (paired_push (ArePlacesOf names) (fires (take i links)) c.loop-link.placed list places c.loop-link.invariant
+    (subst (λ list. ArePlacesOf names list places) here c.in_ok-places_of.ensures)))
 
 pub returns : goal.returns
 returns c =

@@ -1,8 +1,8 @@
-use Rattle.std.proofs.Common.{All, ◌+◌, ◌++◌, ◌∷◌, [], take, get_or, sym, subst, ap}
+use Rattle.std.proofs.Common.{All, ◌+◌, ◌++◌, ◌∷◌, [], take, get_or, sym, subst}
 use Rattle.std.proofs.lemmas.List.{take_more}
 use Rattle.reo_automata.specs.declared.template.Link.{Link}
 use Rattle.reo_automata.specs.declared.template.Template.{Template}
-use Rattle.reo_product.specs.Places.{ArePaired, AreKnown, IsKnownTemplate, IsPlacedTemplate}
+use Rattle.reo_product.specs.Places.{ArePaired, AreKnown, IsPlacedTemplate}
 use Rattle.reo_product.proofs.PlaceLemmas.{paired_push}
 use Rattle.reo_product.proofs.web.place_templates.Goals as goal
 
@@ -23,5 +23,5 @@ loop-template-preserved c =
     let d = c.template-item.result in
     subst (ArePaired (IsPlacedTemplate names) (take (i + 1) templates)) (sym c.in_ok-push.ensures.ok)
     (subst (λ list. ArePaired (IsPlacedTemplate names) list (c.loop-template.automata ++ placed ∷ [])) (sym (take_more templates i d c.loop-template-test.true))
-      (paired_push (IsPlacedTemplate names) (take i templates) c.loop-template.automata (get_or templates i d) placed c.loop-template.invariant
-        (subst (λ t. IsPlacedTemplate names t placed) c.template-item.is c.in_ok-place_template.ensures)))
+    (paired_push (IsPlacedTemplate names) (take i templates) c.loop-template.automata (get_or templates i d) placed c.loop-template.invariant
+    (subst (λ t. IsPlacedTemplate names t placed) c.template-item.is c.in_ok-place_template.ensures)))

@@ -1,9 +1,6 @@
-use Rattle.std.proofs.Common.{◌≡◌, ℕ, ◌+◌, ◌<◌, ◌≤◌, ◌^◌, List, length, All, subst, sym, ap, ◌∙◌, arith}
-use Rattle.std.specs.Prelude.{vec_len}
+use Rattle.std.proofs.Common.{◌≡◌, ◌<◌, length, All, subst, sym, ap, ◌∙◌, arith}
 use Rattle.std.proofs.lemmas.Grind.{common_steps}
-use Rattle.reo_automata.specs.declared.template.Template.{Template}
 use Rattle.reo_automata.specs.Template.{automaton_of, IsTemplate}
-use Rattle.reo_growth.specs.declared.web.Automaton.{Automaton as WebAutomaton}
 use Rattle.reo_product.specs.RegionWeb.{IsRegionWeb}
 use Rattle.reo_product.specs.Places.{AreNamesOf, AreCells, ArePaired, IsPlacedTemplate, IsKnownTemplate}
 use Rattle.reo_product.proofs.PlaceLemmas.{paired_length}
@@ -52,7 +49,7 @@ returns-clause-web c = λ root region.
     let names = c.in_ok-names.names.items in
     let are = subst (λ ts. AreNamesOf ts names) c.deref.ensures.value c.in_ok-names.ensures in
     let placed = subst (λ ns. ArePaired (IsPlacedTemplate ns) templates c.in_ok-automata.automata) c.deref-2.ensures.value
-        (subst (λ ts. ArePaired (IsPlacedTemplate c.deref-2.result.now) ts c.in_ok-automata.automata) c.deref-3.ensures.value c.in_ok-automata.ensures) in
+    (subst (λ ts. ArePaired (IsPlacedTemplate c.deref-2.result.now) ts c.in_ok-automata.automata) c.deref-3.ensures.value c.in_ok-automata.ensures) in
     let cells = subst (λ ns. AreCells net ns (length net.channels) c.in_ok-cells.cells) c.deref-4.ensures.value c.in_ok-cells.ensures in
     let long : c.len-count.result ≡ length names = grind (arith, common_steps, c.len-count.ensures) in
     subst (λ ns. IsRegionWeb net root ns (record { automata = c.in_ok-automata.automata; cells = c.in_ok-cells.cells; names = c.len-count.result })) (sym c.from_vec.ensures)
@@ -81,7 +78,7 @@ returns-clause-is_web c =
     let names = c.in_ok-names.names.items in
     let are = subst (λ ts. AreNamesOf ts names) c.deref.ensures.value c.in_ok-names.ensures in
     let placed = subst (λ ns. ArePaired (IsPlacedTemplate ns) templates c.in_ok-automata.automata) c.deref-2.ensures.value
-        (subst (λ ts. ArePaired (IsPlacedTemplate c.deref-2.result.now) ts c.in_ok-automata.automata) c.deref-3.ensures.value c.in_ok-automata.ensures) in
+    (subst (λ ts. ArePaired (IsPlacedTemplate c.deref-2.result.now) ts c.in_ok-automata.automata) c.deref-3.ensures.value c.in_ok-automata.ensures) in
     let cells = subst (λ ns. AreCells net ns (length net.channels) c.in_ok-cells.cells) c.deref-4.ensures.value c.in_ok-cells.ensures in
     let long : c.len-count.result ≡ length names = grind (arith, common_steps, c.len-count.ensures) in
     web_is_web net c.args.automata.now templates names c.in_ok-automata.automata c.in_ok-cells.cells c.len-count.result c.in_ok-templates.ensures are placed cells long
