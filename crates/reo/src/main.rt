@@ -12,6 +12,8 @@ use std::io::ErrorKind;
 use std::process::ExitCode;
 
 #[cfg(test)]
+mod cuts;
+#[cfg(test)]
 mod each_call;
 #[cfg(test)]
 mod graphs;
@@ -25,6 +27,8 @@ mod product_steps;
 mod refused_lines;
 #[cfg(test)]
 mod rows;
+#[cfg(test)]
+mod seven;
 
 /// The words after the program's name. Words that are not UTF-8 count as none.
 fn words_of(rt: &HostRuntime) -> Result<Vec<String>, AllocError> {

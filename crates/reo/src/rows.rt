@@ -37,7 +37,7 @@ fn called(
 }
 
 /// A text, and the status, the output and the complaint that it has.
-const ROWS: [(&str, Status, &str, &str); 9] = [
+const ROWS: [(&str, Status, &str, &str); 13] = [
     (FIRST, Status::Done, FIRST_REPORT, ""),
     ("", Status::Done, "end done\n", ""),
     ("component P\n", Status::Done, "end done\n", ""),
@@ -58,6 +58,30 @@ const ROWS: [(&str, Status, &str, &str); 9] = [
         Status::Done,
         "step 0 A!=-5 1.a=-5 2.a=-5\nstep 1 B?=-5 1.b=-5\nstep 2 C?=-5 2.b=-5\ncall P put A -5 at 0\ncall Q get B -5 at 1\ncall R get C -5 at 2\nend done\n",
         "",
+    ),
+    (
+        "fifo X Y full 1\nfifo Y X\n",
+        Status::Done,
+        "end done\n",
+        "",
+    ),
+    (
+        "fifo X Y full 1\nfifo Y X\nin A\nfifo A B\nout B\ncomponent P\nput A 5\ncomponent Q\nget B\n",
+        Status::Done,
+        "step 0 1.b=1 2.a=1\nstep 1 A!=5 3.a=5\nstep 2 B?=5 3.b=5\ncall P put A 5 at 1\ncall Q get B 5 at 2\nend done\n",
+        "",
+    ),
+    (
+        "fifo A C full 1\nfifo B C full 2\nout C\ncomponent Q\nget C\nget C\n",
+        Status::Done,
+        "step 0 C?=1 1.b=1\nstep 1 C?=2 2.b=2\ncall Q get C 1 at 0\ncall Q get C 2 at 1\nend done\n",
+        "",
+    ),
+    (
+        "sync A B\n",
+        Status::Refused,
+        "",
+        "reo: line 1: not built\n",
     ),
     (
         "in A\nsync A B\n",

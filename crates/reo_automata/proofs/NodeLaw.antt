@@ -1,5 +1,5 @@
 -- the links of a node are its transitions
-use Rattle.std.proofs.Common.{◌≡◌, ◌↔◌, ℕ, zero, suc, ◌+◌, ◌<◌, ◌⊎◌, ⊎_elim, inl, inr, Bool, true, false, not, ◌||◌, ◌&&◌, cond, List, [], ◌∷◌, length, map, filter, filter_map, slice_get, get_or, nat_eq, Option, Some, None, IsTrue, refl, sym, ap, ◌∙◌, subst, arith}
+use Rattle.std.proofs.Common.{◌≡◌, ◌↔◌, ℕ, ◌⊎◌, ⊎_elim, inl, inr, Bool, true, false, not, ◌||◌, ◌&&◌, cond, List, [], ◌∷◌, map, filter, filter_map, slice_get, nat_eq, Option, Some, None, refl, sym, ap, ◌∙◌, subst}
 use Rattle.std.specs.List.{list_any, range_with_len}
 use Rattle.std.specs.List.Sorted.{IsStrictlyIncreasing}
 use Rattle.std.specs.Option.{option_map, option_map_or}
@@ -12,15 +12,15 @@ use Rattle.reo_net.specs.declared.circuit.RawCircuit.{RawCircuit}
 use Rattle.reo_net.specs.declared.stand.Stand.{Stand}
 use Rattle.reo_net.specs.Names.{name_count, IsIncoming, IsOutgoing, IsNameOf}
 use Rattle.reo_net.specs.Stand.{stand_of}
-use Rattle.reo_net.specs.Steps.{Data, fires_in, NodeFires, NodeStep}
-use Rattle.reo_net.specs.Regions.{OfNode, HasName, AutomatonFires}
+use Rattle.reo_net.specs.Steps.{fires_in, NodeFires}
+use Rattle.reo_net.specs.Regions.{OfNode}
 use Rattle.reo_net.proofs.NameLemmas.{name_below}
 use Rattle.reo_net.proofs.StandLemmas.{incoming_stands, outgoing_stands}
 use Rattle.reo_automata.specs.declared.template.Rule.TheVariants.{Same}
 use Rattle.reo_automata.specs.declared.template.Link.{Link}
 use Rattle.reo_automata.specs.declared.template.Template.{Template}
 use Rattle.reo_automata.specs.Links.{link_of, is_at, is_in, node_names, serving, input_link, node_links}
-use Rattle.reo_automata.specs.Template.{has, Fires, LinkMoves, MakesMove, SomeLink, IsTemplate}
+use Rattle.reo_automata.specs.Template.{has, Fires, LinkMoves, SomeLink, IsTemplate}
 use Rattle.reo_automata.proofs.HasLemmas.{has_head, has_tail, has_cases, has_filter, has_place, place_has, has_range, range_rises, one_place}
 
 from_option : {X Y : Type 0} (f : X → Y) (o : Option X) (y : Y) → option_map f o ≡ Some y → (x : X) × (o ≡ Some x) × (f x ≡ y)

@@ -1,5 +1,5 @@
 -- What a template says of an automaton: its names, and its transitions as sets of names with rules for their data.
-use Rattle.std.specs.Prelude.{◌≡◌, ◌↔◌, ℕ, ◌-◌, List, length, slice_get, nat_lt, nat_eq, if◌then◌else◌, All, Bool, true, Option, Some, None, IfSome}
+use Rattle.std.specs.Prelude.{◌≡◌, ◌↔◌, ℕ, ◌-◌, List, length, slice_get, nat_lt, nat_eq, if◌then◌else◌, Bool, true, Option, Some, None, IfSome}
 use Rattle.std.specs.List.{list_any}
 use Rattle.std.specs.List.Sorted.{IsStrictlyIncreasing}
 use Rattle.reo_value.specs.declared.value.Value.{Value}

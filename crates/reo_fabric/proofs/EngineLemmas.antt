@@ -17,10 +17,11 @@ use Rattle.reo_fabric.specs.Entry.{State, Agrees, at_place, content_after, carri
 use Rattle.reo_fabric.specs.Reading.{Offers, reading_of, cells_of, ports_of, cell_word, state_word, data_word}
 use Rattle.reo_fabric.specs.Decider.{IsFitting, Fills}
 use Rattle.reo_fabric.specs.Room.{RoomState, room_of, IsRewritten, HasRoomFor}
-use Rattle.reo_fabric.specs.Engine.{EngineState, offers_of, IsUnread, answered}
+use Rattle.reo_fabric.specs.Engine.{EngineState, offers_of, answered}
+use Rattle.reo_fabric.specs.inside.Whole.{IsUnread}
 use Rattle.reo_fabric.specs.Laws.{AreValues}
-use Rattle.reo_fabric.specs.Writes.{IsWithin}
-use Rattle.reo_fabric.specs.Whole.{EachAt, IsRoomOf, IsEngine, last_entry}
+use Rattle.reo_fabric.specs.inside.Writes.{IsWithin}
+use Rattle.reo_fabric.specs.inside.Whole.{EachAt, IsRoomOf, IsEngine, last_entry}
 use Rattle.reo_fabric.proofs.PlaceLemmas.{at_place_holds}
 use Rattle.reo_fabric.proofs.FittingLemmas.{fitting_agree, fitting_have_room}
 

@@ -4,3 +4,4 @@ pub mod FittingLemmas
 pub mod WordLemmas
 pub mod WriteLemmas
 pub mod EngineLemmas
+pub mod HistoryLemmas

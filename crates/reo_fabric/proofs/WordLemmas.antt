@@ -6,7 +6,7 @@ use Rattle.reo_fabric.specs.declared.fabric.Fabric.{Fabric}
 use Rattle.reo_fabric.specs.declared.reading.Reading.{Reading}
 use Rattle.reo_fabric.specs.Entry.{State}
 use Rattle.reo_fabric.specs.Reading.{places_of, Offers, cells_of, ports_of, cell_word, state_word, data_word, reading_of}
-use Rattle.reo_fabric.specs.Engine.{IsUnread}
+use Rattle.reo_fabric.specs.inside.Whole.{IsUnread}
 
 -- a list of which each element is what a function makes of the old one
 pub mapped_all : {A : Type 0} (f : A → A) (d : A) (old new : List A) → length new ≡ length old → ((k : ℕ) → k < length old → get_or new k d ≡ f (get_or old k d)) → new ≡ map f old

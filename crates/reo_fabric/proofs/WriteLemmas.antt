@@ -9,7 +9,7 @@ use Rattle.reo_fabric.specs.declared.port_state.PortState.{PortState}
 use Rattle.reo_fabric.specs.declared.port_state.PortState.TheVariants.{Idle, Answered}
 use Rattle.reo_fabric.specs.Entry.{State, at_place, RisesFrom, content_after, carried_out}
 use Rattle.reo_fabric.specs.Engine.{port_after, answered}
-use Rattle.reo_fabric.specs.Writes.{written}
+use Rattle.reo_fabric.specs.inside.Writes.{written}
 use Rattle.reo_fabric.proofs.PlaceLemmas.{at_first, at_later, none_below}
 
 -- what a place's value, where there is one, makes of what is there

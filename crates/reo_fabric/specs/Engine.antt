@@ -1,16 +1,15 @@
 -- The plain engine: its state, and what its calls make of it.
-use Rattle.std.specs.Prelude.{◌≡◌, ℕ, ◌+◌, List, length, map, slice_index_or, slice_set, Option, Some, None}
-use Rattle.std.specs.List.{range_with_len}
+use Rattle.std.specs.Prelude.{◌≡◌, ℕ, ◌+◌, List, map, slice_index_or, slice_set, Option, Some, None}
 use Rattle.reo_value.specs.declared.value.Value.{Value}
 use Rattle.reo_fabric.specs.declared.entry.Entry.{Entry}
 use Rattle.reo_fabric.specs.declared.fabric.Fabric.{Fabric}
 use Rattle.reo_fabric.specs.declared.reading.Reading.{Reading}
 use Rattle.reo_fabric.specs.declared.port_state.PortState.{PortState}
 use Rattle.reo_fabric.specs.declared.port_state.PortState.TheVariants.{Idle, Offered, Answered}
-use Rattle.reo_fabric.specs.Entry.{State, Agrees, at_place, carried_out}
+use Rattle.reo_fabric.specs.Entry.{State, Agrees, at_place, at_each_place, carried_out}
 use Rattle.reo_fabric.specs.Decider.{IsChosen}
 use Rattle.reo_fabric.specs.Fabric.{first_state}
-use Rattle.reo_fabric.specs.Reading.{Offers, reading_of, IsReadingIn}
+use Rattle.reo_fabric.specs.Reading.{Offers, reading_of}
 
 pub record EngineState (D : Type 0) : Type 0 where
   pub fabric : Fabric
@@ -32,6 +31,10 @@ started fabric decider = record {
   last = None;
 }
 
+-- what is at a port
+abbrev pub port_at : List PortState → ℕ → PortState
+port_at ports port = slice_index_or ports port Idle
+
 -- the offer at a port
 abbrev pub offer_of : PortState → Option (Option Value)
 offer_of Idle = None
@@ -51,12 +54,6 @@ offers_of ports = map offer_of ports
 abbrev pub engine_reading : {D : Type 0} → EngineState D → ℕ → Reading
 engine_reading engine region = reading_of engine.fabric region engine.cells (offers_of engine.ports)
 
--- a reading of the region's places, of no round and no clock
-pub record IsUnread (fabric : Fabric) (region : ℕ) (reading : Reading) : Type 0 where
-  pub of_region : IsReadingIn fabric region reading
-  pub no_round : reading.round ≡ 0
-  pub no_clock : reading.clock ≡ 0
-
 -- what is at a port after an entry of this number, by what it puts and gets there
 abbrev pub port_after : ℕ → Option Value → Option Value → PortState → PortState
 port_after number (Some put) get state = Answered put number
@@ -66,7 +63,7 @@ port_after number None None state = state
 -- the ports after an entry of this number: where it puts or gets they are answered
 abbrev pub answered : List PortState → ℕ → Entry → List PortState
 answered ports number entry =
-    map (λ port. port_after number (at_place entry.puts port) (at_place entry.gets port) (slice_index_or ports port Idle)) (range_with_len 0 (length ports))
+    at_each_place (λ port. port_after number (at_place entry.puts port) (at_place entry.gets port) (port_at ports port)) ports
 
 -- the engine after this entry
 abbrev pub after_entry : {D : Type 0} → EngineState D → Entry → EngineState D
@@ -97,4 +94,4 @@ without_answer engine port (Offered value) = engine
 without_answer engine port (Answered value number) = with_port engine port Idle
 
 abbrev pub taken_answer : {D : Type 0} → EngineState D → ℕ → EngineState D
-taken_answer engine port = without_answer engine port (slice_index_or engine.ports port Idle)
+taken_answer engine port = without_answer engine port (port_at engine.ports port)

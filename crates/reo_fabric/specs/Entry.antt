@@ -9,6 +9,14 @@ use Rattle.reo_fabric.specs.declared.entry.Entry.{Entry}
 abbrev pub State : Type 0
 State = List (Option Value)
 
+-- what is in a cell
+abbrev pub content_at : State → ℕ → Option Value
+content_at state cell = slice_index_or state cell None
+
+-- a list that has, at each place of this one, what a function gives for the place
+abbrev pub at_each_place : {A B : Type 0} → (ℕ → B) → List A → List B
+at_each_place f xs = map f (range_with_len 0 (length xs))
+
 -- what the list has at a place
 abbrev pub at_place : {A : Type 0} → List (ℕ × A) → ℕ → Option A
 at_place places place = lookup (nat_eq place) places
@@ -32,4 +40,4 @@ content_after None None held = held
 -- the state after an entry: the cells that it takes from are empty, and those that it fills are full
 abbrev pub carried_out : State → Entry → State
 carried_out state entry =
-    map (λ cell. content_after (at_place entry.takes cell) (at_place entry.fills cell) (slice_index_or state cell None)) (range_with_len 0 (length state))
+    at_each_place (λ cell. content_after (at_place entry.takes cell) (at_place entry.fills cell) (content_at state cell)) state

@@ -3,9 +3,7 @@ pub mod History
 pub mod Fabric
 pub mod Reading
 pub mod Decider
-pub mod Spare
 pub mod Room
 pub mod Engine
-pub mod Writes
 pub mod Laws
-pub mod Whole
+pub mod inside

@@ -4,7 +4,7 @@ use Rattle.reo_value.specs.declared.value.Value.{Value}
 use Rattle.reo_value.specs.Code.{code_of}
 use Rattle.reo_fabric.specs.declared.fabric.Fabric.{Fabric}
 use Rattle.reo_fabric.specs.declared.reading.Reading.{Reading}
-use Rattle.reo_fabric.specs.Entry.{State}
+use Rattle.reo_fabric.specs.Entry.{State, content_at}
 
 -- the places of the elements that pass the test, where the first element has the place `first`
 abbrev pub places_of : {A : Type 0} → (A → Bool) → ℕ → List A → List ℕ
@@ -22,6 +22,9 @@ ports_of fabric region = places_of (λ port. nat_eq port.region region) 0 fabric
 -- For each port an offer, or none: at a put port a value, at a get port no value.
 abbrev pub Offers : Type 0
 Offers = List (Option (Option Value))
+
+abbrev pub offer_at : Offers → ℕ → Option (Option Value)
+offer_at offers port = slice_index_or offers port None
 
 -- the word of a cell with this in it
 abbrev pub cell_word : Option Value → ℕ
@@ -45,8 +48,8 @@ reading_of fabric region state offers = record {
   region = region;
   round = 0;
   clock = 0;
-  cells = map (λ cell. (cell, cell_word (slice_index_or state cell None))) (cells_of fabric region);
-  ports = map (λ port. (port, state_word (slice_index_or offers port None), data_word (slice_index_or offers port None))) (ports_of fabric region);
+  cells = map (λ cell. (cell, cell_word (content_at state cell))) (cells_of fabric region);
+  ports = map (λ port. (port, state_word (offer_at offers port), data_word (offer_at offers port))) (ports_of fabric region);
 }
 
 -- it has a word for each cell of the region and two for each port at it

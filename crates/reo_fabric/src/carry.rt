@@ -3,7 +3,7 @@ ghost use Rattle.std.specs.Prelude.{◌≡◌, ◌<◌, length, All, Some, None}
 ghost use Rattle.reo_fabric.specs.declared.port_state.PortState.TheVariants.{Answered};
 ghost use Rattle.reo_fabric.specs.Entry.{carried_out};
 ghost use Rattle.reo_fabric.specs.Engine.{answered};
-ghost use Rattle.reo_fabric.specs.Writes.{written, IsWithin};
+ghost use Rattle.reo_fabric.specs.inside.Writes.{written, IsWithin};
 
 use crate::entry_ref::EntryRef;
 use crate::port_state::PortState;

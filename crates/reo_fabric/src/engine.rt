@@ -7,8 +7,9 @@ ghost use Rattle.reo_fabric.specs.Fabric.{IsLawfulFabric};
 ghost use Rattle.reo_value.specs.Code.{IsValue};
 ghost use Rattle.reo_fabric.specs.Decider.{Fits};
 ghost use Rattle.reo_fabric.specs.Laws.{AreValues};
-ghost use Rattle.reo_fabric.specs.Whole.{EachAt, IsRoomOf};
-ghost use Rattle.reo_fabric.specs.Engine.{IsUnread, started, engine_reading, Fires, answer_of, with_port, taken_answer};
+ghost use Rattle.reo_fabric.specs.inside.Whole.{EachAt, IsRoomOf};
+ghost use Rattle.reo_fabric.specs.Engine.{port_at, started, engine_reading, Fires, answer_of, with_port, taken_answer};
+ghost use Rattle.reo_fabric.specs.inside.Whole.{IsUnread};
 
 use crate::carry::carry_out;
 use crate::decider::Decider;
@@ -36,8 +37,8 @@ pub struct PlainEngine<D: Decider + Drop> {
 }
 
 impl<D: Decider + Drop> Model for PlainEngine<D> {
-    ghost use Rattle.reo_fabric.specs.Engine.{EngineState};
-    ghost use Rattle.reo_fabric.specs.Whole.{IsEngine, last_entry};
+    ghost use Rattle.reo_fabric.specs.Engine.{port_at, EngineState};
+    ghost use Rattle.reo_fabric.specs.inside.Whole.{IsEngine, last_entry};
 
     ghost Value = { EngineState D };
 
@@ -102,6 +103,13 @@ impl<D: Decider + Drop> PlainEngine<D> {
         Some(number)
     }
 
+    /// What is in each cell.
+    pub fn cells(&self) -> &[Option<Value>]
+        ensures { result.now ≡ self.now.cells }
+    {
+        self.cells.as_slice()
+    }
+
     /// The last entry that was carried out.
     pub fn last(&self) -> Option<EntryRef<'_>>
         ensures { result ≡ self.now.last }
@@ -122,7 +130,7 @@ impl<D: Decider + Drop> PlainEngine<D> {
     /// The answer at a port, which is idle then.
     pub fn answer(&mut self, port: u32) -> Option<(Value, u64)>
         requires { port < length self.old.ports }
-        ensures answer { result ≡ answer_of (slice_index_or self.old.ports port Idle) }
+        ensures answer { result ≡ answer_of (port_at self.old.ports port) }
         ensures after { self.new ≡ taken_answer self.old port }
     {
         let state = self.ports[port as usize];

@@ -1,7 +1,10 @@
 //! An entry that is lent.
-ghost use Rattle.std.specs.Prelude.{◌≡◌};
+ghost use Rattle.std.specs.Prelude.{◌≡◌, IfOk};
 
+use crate::entry::Entry;
 use reo_value::Value;
+use sqlite_items::Items;
+use std::alloc::{AllocError, Global};
 use std::marker::Model;
 
 /// An entry that is lent: contracts see it as the entry.
@@ -90,5 +93,19 @@ impl<'a> EntryRef<'a> {
         ensures { result.now ≡ self.now.gets }
     {
         self.gets
+    }
+
+    /// A copy of the entry.
+    pub fn to_entry(&self, alloc: Global) -> Result<Entry, AllocError>
+        ensures { IfOk result (λ entry. entry ≡ self.now) }
+    {
+        Ok(Entry {
+            region: self.region,
+            choice: self.choice,
+            takes: Items::from_slice(alloc, self.takes)?,
+            fills: Items::from_slice(alloc, self.fills)?,
+            puts: Items::from_slice(alloc, self.puts)?,
+            gets: Items::from_slice(alloc, self.gets)?,
+        })
     }
 }

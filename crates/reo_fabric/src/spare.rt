@@ -14,7 +14,7 @@ pub(crate) struct Spare {
 
 impl Model for Spare {
     ghost use Rattle.std.specs.Prelude.{◌≤◌, vec_len, vec_capacity};
-    ghost use Rattle.reo_fabric.specs.Spare.{SpareState};
+    ghost use Rattle.reo_fabric.specs.inside.Spare.{SpareState};
 
     ghost Value = { SpareState };
 

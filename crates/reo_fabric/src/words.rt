@@ -1,8 +1,10 @@
 //! The words that a region reads.
 ghost use Rattle.std.specs.Prelude.{◌≡◌, ℕ, ◌<◌, ◌^◌, ◌||◌, length, map, slice_index_or, nat_eq, None, IfOk};
 ghost use Rattle.reo_fabric.specs.declared.fabric.Fabric.{Fabric as AnyFabric};
-ghost use Rattle.reo_fabric.specs.Reading.{places_of, reading_of, cell_word, state_word, data_word};
-ghost use Rattle.reo_fabric.specs.Engine.{offers_of, IsUnread};
+ghost use Rattle.reo_fabric.specs.Entry.{content_at};
+ghost use Rattle.reo_fabric.specs.Reading.{offer_at, places_of, reading_of, cell_word, state_word, data_word};
+ghost use Rattle.reo_fabric.specs.Engine.{offers_of};
+ghost use Rattle.reo_fabric.specs.inside.Whole.{IsUnread};
 
 use crate::fabric::{CellSpec, Fabric, PortSpec};
 use crate::port_state::PortState;
@@ -13,7 +15,7 @@ use std::alloc::{AllocError, Global};
 
 /// The word of a cell.
 fn cell_word_at(cells: &[Option<Value>], cell: u32) -> u64
-    ensures { result ≡ cell_word (slice_index_or cells.now cell None) }
+    ensures { result ≡ cell_word (content_at cells.now cell) }
 {
     match cells.get(cell as usize) {
         Some(Some(value)) => word_of(*value),
@@ -23,7 +25,7 @@ fn cell_word_at(cells: &[Option<Value>], cell: u32) -> u64
 
 /// The state word and the data word of a port.
 fn port_words_at(ports: &[PortState], port: u32) -> (u64, u64)
-    ensures { result ≡ (state_word (slice_index_or (offers_of ports.now) port None), data_word (slice_index_or (offers_of ports.now) port None)) }
+    ensures { let offer = offer_at (offers_of ports.now) port in result ≡ (state_word offer, data_word offer) }
 {
     match ports.get(port as usize) {
         Some(PortState::Offered(Some(value))) => (1, word_of(*value)),
@@ -48,7 +50,7 @@ fn port_of_words(words: &[(u32, u64, u64)], at: usize) -> u32
 
 /// Reads each of these cells anew.
 pub(crate) fn read_cells(words: &mut Items<(u32, u64)>, cells: &[Option<Value>])
-    ensures { words.new ≡ map (λ p. (p.0, cell_word (slice_index_or cells.now p.0 None))) words.old }
+    ensures { words.new ≡ map (λ p. (p.0, cell_word (content_at cells.now p.0))) words.old }
 {
     for at in 0..words.len() {
         let cell = cell_of_word(words.as_slice(), at);
@@ -58,7 +60,7 @@ pub(crate) fn read_cells(words: &mut Items<(u32, u64)>, cells: &[Option<Value>])
 
 /// Reads each of these ports anew.
 pub(crate) fn read_ports(words: &mut Items<(u32, u64, u64)>, ports: &[PortState])
-    ensures { words.new ≡ map (λ p. (p.0, state_word (slice_index_or (offers_of ports.now) p.0 None), data_word (slice_index_or (offers_of ports.now) p.0 None))) words.old }
+    ensures { words.new ≡ map (λ p. (p.0, state_word (offer_at (offers_of ports.now) p.0), data_word (offer_at (offers_of ports.now) p.0))) words.old }
 {
     for at in 0..words.len() {
         let port = port_of_words(words.as_slice(), at);

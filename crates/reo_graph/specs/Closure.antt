@@ -1,5 +1,6 @@
 -- Paths by way of the first vertices alone, which can be decided, and the rank of a vertex.
-use Rattle.std.specs.Prelude.{◌≡◌, ℕ, zero, suc, ◌+◌, ◌<◌, Bool, true, false, ◌||◌, ◌&&◌, List, [], slice_index_or, cond}
+use Rattle.std.specs.Prelude.{◌≡◌, ℕ, zero, suc, ◌+◌, ◌<◌, Bool, true, false, ◌||◌, ◌&&◌, List, [], map, slice_index_or, cond, Vec}
+use Rattle.std.specs.Global.{Global}
 
 -- whether a path leads from i to j whose vertices between the two are all below n
 unfoldable pub goes : (ℕ → ℕ → Bool) → ℕ → ℕ → ℕ → Bool
@@ -18,6 +19,10 @@ count_below test (suc n) = cond (test n) 1 0 + count_below test n
 -- from how many vertices below n a path leads to the vertex
 abbrev pub rank : (ℕ → ℕ → Bool) → ℕ → ℕ → ℕ
 rank edge n vertex = count_below (λ i. goes edge n i vertex) n
+
+-- the marks of a table, row by row
+abbrev pub rows : List (Vec Bool Global) → List (List Bool)
+rows table = map (λ row. row.items) table
 
 -- whether a row has a mark at place j
 abbrev pub mark : List Bool → ℕ → Bool

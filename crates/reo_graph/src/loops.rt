@@ -1,7 +1,7 @@
 //! The least vertex that is on a loop.
 ghost use Rattle.std.specs.Prelude.{◌≡◌, ◌⊎◌, Some, length, map, nat_eq, IfOk};
 ghost use Rattle.reo_graph.specs.Paths.{IsOnLoop, IsLeast};
-ghost use Rattle.reo_graph.specs.Closure.{bit};
+ghost use Rattle.reo_graph.specs.Closure.{rows, bit};
 ghost use Rattle.reo_graph.specs.Edges.{following, IsLooped};
 
 use crate::closure::{closed, is_marked, row_at};
@@ -22,7 +22,7 @@ pub fn least_on_loop(alloc: Global, edges: &[(u32, u32)]) -> Result<Option<u32>,
 
 /// A table of the edges, with a mark where the one ends where the other begins.
 fn following_edges(alloc: Global, edges: &[(u32, u32)]) -> Result<Vec<Vec<bool>>, AllocError>
-    ensures { IfOk result (λ table. map (λ row. row.items) table.items ≡ following edges.now) }
+    ensures { IfOk result (λ table. rows table.items ≡ following edges.now) }
 {
     let mut rows = Vec::with_capacity(alloc, edges.len())?;
     for edge in edges {
@@ -44,7 +44,7 @@ fn next_edges(alloc: Global, edges: &[(u32, u32)], vertex: u32) -> Result<Vec<bo
 
 /// The least begin of an edge that the table marks in its own row.
 fn least_looped(edges: &[(u32, u32)], table: &[Vec<bool>]) -> Option<u32>
-    ensures { IsLeast (IsLooped edges.now (map (λ row. row.items) table.now) (length edges.now)) result }
+    ensures { IsLeast (IsLooped edges.now (rows table.now) (length edges.now)) result }
 {
     let mut least = None;
     for (number, edge) in edges.iter().enumerate() {
@@ -56,7 +56,7 @@ fn least_looped(edges: &[(u32, u32)], table: &[Vec<bool>]) -> Option<u32>
 }
 
 fn is_looped(table: &[Vec<bool>], number: usize) -> bool
-    ensures { result ≡ bit (map (λ row. row.items) table.now) number number }
+    ensures { result ≡ bit (rows table.now) number number }
 {
     is_marked(row_at(table, number), number)
 }

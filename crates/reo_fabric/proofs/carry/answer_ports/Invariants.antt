@@ -1,6 +1,6 @@
 use Rattle.std.proofs.Common.{◌≡◌, drop}
 use Rattle.reo_fabric.specs.declared.port_state.PortState.TheVariants.{Answered}
-use Rattle.reo_fabric.specs.Writes.{written}
+use Rattle.reo_fabric.specs.inside.Writes.{written}
 use Rattle.reo_fabric.proofs.carry.answer_ports.Given as goal
 
 abbrev pub invariant-loop-port : goal.invariant-loop-port

@@ -2,7 +2,7 @@ use Rattle.std.proofs.Common.{List, ℕ, Some, None, ap, ◌∙◌}
 use Rattle.reo_value.specs.declared.value.Value.{Value}
 use Rattle.reo_fabric.specs.declared.port_state.PortState.{PortState}
 use Rattle.reo_fabric.specs.declared.port_state.PortState.TheVariants.{Answered}
-use Rattle.reo_fabric.specs.Writes.{written}
+use Rattle.reo_fabric.specs.inside.Writes.{written}
 use Rattle.reo_fabric.proofs.WriteLemmas.{writes_carry_out, writes_answer}
 use Rattle.reo_fabric.proofs.carry.carry_out.Goals as goal
 

@@ -1,5 +1,5 @@
 use Rattle.std.proofs.Common.{◌≡◌, drop, Some}
-use Rattle.reo_fabric.specs.Writes.{written}
+use Rattle.reo_fabric.specs.inside.Writes.{written}
 use Rattle.reo_fabric.proofs.carry.fill_cells.Given as goal
 
 abbrev pub invariant-loop-cell : goal.invariant-loop-cell

@@ -1,6 +1,6 @@
 use Rattle.std.proofs.Common.{arith, List, subst, sym}
 use Rattle.reo_fabric.specs.Room.{RoomState}
-use Rattle.reo_fabric.specs.Whole.{EachAt, IsRoomOf}
+use Rattle.reo_fabric.specs.inside.Whole.{EachAt, IsRoomOf}
 use Rattle.reo_fabric.proofs.EngineLemmas.{each_more, new_room}
 use Rattle.reo_fabric.proofs.engine.all_rooms.Goals as goal
 

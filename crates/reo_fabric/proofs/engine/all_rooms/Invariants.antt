@@ -1,5 +1,5 @@
 use Rattle.std.proofs.Common.{◌≡◌, vec_len}
-use Rattle.reo_fabric.specs.Whole.{EachAt, IsRoomOf}
+use Rattle.reo_fabric.specs.inside.Whole.{EachAt, IsRoomOf}
 use Rattle.reo_fabric.proofs.engine.all_rooms.Given as goal
 
 abbrev pub invariant-loop-region : goal.invariant-loop-region

@@ -1,7 +1,7 @@
-use Rattle.reo_fabric.specs.Engine.{IsUnread}
+use Rattle.reo_fabric.specs.inside.Whole.{IsUnread}
 use Rattle.std.proofs.Common.{arith, List, subst, sym}
 use Rattle.reo_fabric.specs.declared.reading.Reading.{Reading}
-use Rattle.reo_fabric.specs.Whole.{EachAt}
+use Rattle.reo_fabric.specs.inside.Whole.{EachAt}
 use Rattle.reo_fabric.proofs.EngineLemmas.{each_more}
 use Rattle.reo_fabric.proofs.engine.all_unread.Goals as goal
 

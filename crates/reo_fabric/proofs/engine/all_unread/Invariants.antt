@@ -1,6 +1,6 @@
 use Rattle.std.proofs.Common.{◌≡◌, vec_len}
-use Rattle.reo_fabric.specs.Engine.{IsUnread}
-use Rattle.reo_fabric.specs.Whole.{EachAt}
+use Rattle.reo_fabric.specs.inside.Whole.{IsUnread}
+use Rattle.reo_fabric.specs.inside.Whole.{EachAt}
 use Rattle.reo_fabric.proofs.engine.all_unread.Given as goal
 
 abbrev pub invariant-loop-region : goal.invariant-loop-region

@@ -5,7 +5,7 @@ use Rattle.reo_fabric.specs.declared.entry.Entry.{Entry}
 use Rattle.reo_fabric.specs.declared.reading.Reading.{Reading}
 use Rattle.reo_fabric.specs.Entry.{State, carried_out}
 use Rattle.reo_fabric.specs.Reading.{reading_of}
-use Rattle.reo_fabric.specs.Whole.{last_entry}
+use Rattle.reo_fabric.specs.inside.Whole.{last_entry}
 use Rattle.reo_fabric.specs.Engine.{EngineState, engine_reading, offers_of, answered, Fires}
 use Rattle.reo_fabric.specs.Room.{RoomState}
 use Rattle.reo_fabric.proofs.EngineLemmas.{read_back, read_anew, within_readings, within_rooms, quiet_engine, fired_engine, allowed_has_room, room_region, allowed_within, allowed_agrees, last_is, same_state}

@@ -9,12 +9,18 @@ use Rattle.reo_fabric.specs.Entry.{State}
 use Rattle.reo_fabric.specs.Fabric.{IsLawfulFabric}
 use Rattle.reo_fabric.specs.Decider.{Fits}
 use Rattle.reo_fabric.specs.Room.{RoomState, room_of, IsRewritten}
-use Rattle.reo_fabric.specs.Engine.{IsUnread}
+use Rattle.reo_fabric.specs.Reading.{IsReadingIn}
 use Rattle.reo_fabric.specs.Laws.{AreValues}
 
 -- so it is with each element and its place
 abbrev pub EachAt : {A : Type 0} → (ℕ → A → Type 0) → List A → Type 0
 EachAt P xs = (place : ℕ) (x : _) → slice_get xs place ≡ Some x → P place x
+
+-- a reading of the region's places, of no round and no clock
+pub record IsUnread (fabric : Fabric) (region : ℕ) (reading : Reading) : Type 0 where
+  pub of_region : IsReadingIn fabric region reading
+  pub no_round : reading.round ≡ 0
+  pub no_clock : reading.clock ≡ 0
 
 -- the room was made for the region
 abbrev pub IsRoomOf : Fabric → ℕ → RoomState → Type 0

@@ -1,0 +1,4 @@
+-- Words for what is inside the types, which only this crate's own functions cite.
+pub mod Spare
+pub mod Writes
+pub mod Whole
