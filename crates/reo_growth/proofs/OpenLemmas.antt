@@ -1,16 +1,16 @@
 -- Before which automaton none is open.
-use Rattle.std.proofs.Common.{◌≡◌, ℕ, ◌+◌, ◌-◌, ◌<◌, ◌≤◌, ◌⊎◌, inl, inr, ⊎_elim, List, [], ◌∷◌, ◌++◌, length, take, drop, get_or, replicate, Bool, true, false, not, cond, ◌||◌, Option, Some, None, refl, sym, ◌∙◌, ap, subst, arith, get_or-set_other, get_or-set_same}
-use Rattle.std.specs.Prelude.{nat_eq, nat_lt, position}
+use Rattle.std.proofs.Common.{◌≡◌, ℕ, ◌+◌, ◌-◌, ◌<◌, ◌≤◌, ◌⊎◌, inl, inr, ⊎_elim, List, [], ◌++◌, length, take, drop, get_or, replicate, Bool, true, false, not, cond, ◌||◌, Some, None, sym, ◌∙◌, ap, subst, arith, get_or-set_other, get_or-set_same}
+use Rattle.std.specs.Prelude.{nat_lt, position}
 use Rattle.std.specs.Option.{option_map}
-use Rattle.std.specs.List.{position_or_len, prefix_len}
+use Rattle.std.specs.List.{position_or_len}
 use Rattle.std.proofs.Math.ListN.{set, length-set}
-use Rattle.std.proofs.lemmas.Bool.{false≢true, true≢false, not-true, not-false, or_cases, cases_Bool, cases_lt, cases_eq, lt-ltb, le-ltb, false_from_ne_true}
+use Rattle.std.proofs.lemmas.Bool.{not-true, not-false, or_cases, cases_lt, cases_eq, lt-ltb, le-ltb, false_from_ne_true}
 use Rattle.std.proofs.lemmas.List.{get_or_default, length-drop, get_or-drop, get_or-take, get_or_append_left, length-replicate, get_or-replicate}
 use Rattle.std.proofs.lemmas.List.Sums.{prefix_len_passes, prefix_len_stops, prefix_len-le-length, position_or_len_is}
 use Rattle.reo_growth.specs.declared.marks.Mark.{Mark}
-use Rattle.reo_growth.specs.declared.marks.Mark.TheVariants.{Absent, Open, Listed, Unknown}
+use Rattle.reo_growth.specs.declared.marks.Mark.TheVariants.{Absent, Listed, Unknown}
 use Rattle.reo_growth.specs.declared.web.Web.{Web}
-use Rattle.reo_growth.specs.Marks.{Changes, IsBefore, NoneOpenBefore, is_open_mark, opened, is_held, marks_of}
+use Rattle.reo_growth.specs.Marks.{Changes, IsBefore, NoneOpenBefore, is_open_mark, opened, marks_of}
 use Rattle.reo_growth.proofs.TableLemmas.{marks_of_none}
 
 -- where none before a place passes, the first that passes is the first from there on

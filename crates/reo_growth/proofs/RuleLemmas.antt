@@ -1,11 +1,10 @@
 -- The list of vertices has what the rules give: the bound on further automata cuts nothing off.
-use Rattle.std.proofs.Common.{◌≡◌, ℕ, zero, suc, ◌+◌, ◌<◌, ◌≤◌, ◌⊎◌, inl, inr, List, [], ◌∷◌, length, Bool, true, false, cond, Option, Some, None, refl, sym, ◌∙◌, ap, subst, arith}
-use Rattle.std.specs.Prelude.{nat_lt, flat_map}
+use Rattle.std.proofs.Common.{◌≡◌, ℕ, zero, suc, ◌<◌, ◌≤◌, inl, inr, [], length, Bool, true, false, cond, Option, Some, None, refl, sym, subst, arith}
+use Rattle.std.specs.Prelude.{nat_lt}
 use Rattle.std.proofs.lemmas.Bool.{ltb-false, le-ltb}
 use Rattle.reo_growth.specs.declared.web.Web.{Web}
-use Rattle.reo_growth.specs.Lists.{has, Among}
-use Rattle.reo_growth.specs.Web.{names_of, links_of}
-use Rattle.reo_growth.specs.Growth.{Vertex, is_open, least_open, agrees, fits, with_link, extended, children_at, grown, vertices_of, IsVertex}
+use Rattle.reo_growth.specs.Lists.{Among}
+use Rattle.reo_growth.specs.Growth.{Vertex, least_open, agrees, with_link, extended, children_at, grown, vertices_of, IsVertex}
 use Rattle.reo_growth.specs.Growth.IsVertex.{alone, child}
 use Rattle.reo_growth.specs.Laws.{VerticesByRule}
 use Rattle.reo_growth.proofs.ListLemmas.{among_flat_map, flat_map_gives}

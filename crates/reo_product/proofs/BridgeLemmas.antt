@@ -1,16 +1,14 @@
 -- What is connected in the web of a region is a connected firing of the region.
-use Rattle.std.proofs.Common.{◌≡◌, ℕ, ◌+◌, ◌-◌, ◌<◌, ◌≤◌, ◌⊎◌, inl, inr, ⊎_elim, List, [], ◌∷◌, length, get_or, slice_get, Bool, true, false, cond, Option, Some, None, refl, sym, ◌∙◌, ap, subst, arith}
+use Rattle.std.proofs.Common.{◌≡◌, ℕ, ◌-◌, ◌<◌, ◌⊎◌, inl, inr, ⊎_elim, List, [], length, get_or, Bool, true, false, cond, refl, sym, ◌∙◌, ap, subst, arith}
 use Rattle.std.specs.Prelude.{nat_lt}
 use Rattle.std.specs.List.{list_any}
 use Rattle.std.specs.Option.{option_map_or}
 use Rattle.std.specs.List.Sorted.{IsStrictlyIncreasing}
-use Rattle.std.proofs.lemmas.Bool.{false≢true, true≢false, cases_Bool, cases_order, cases_lt, ltb-false, false_from_ne_true}
+use Rattle.std.proofs.lemmas.Bool.{true≢false, cases_Bool, cases_order, ltb-false, false_from_ne_true}
 use Rattle.std.proofs.lemmas.Option.{slice_get-get_or}
 use Rattle.std.proofs.lemmas.List.Kept.{AllPairs-from_increasing}
-use Rattle.reo_net.specs.declared.circuit.Channel.{Channel}
 use Rattle.reo_net.specs.declared.circuit.RawCircuit.{RawCircuit}
 use Rattle.reo_net.specs.Names.{end_a, end_b}
-use Rattle.reo_net.specs.Kind.{is_fifo}
 use Rattle.reo_net.specs.Regions.{Automaton, OfChannel, OfNode, automaton_number, HasName, SameRegion, AutomatonFires, IsQuiet, HangsTogether, Moves, IsConnectedFiring}
 use Rattle.reo_net.specs.Regions.HangsTogether.{here as together_here, linked as together_linked}
 use Rattle.reo_automata.specs.Template.{automaton_of}
@@ -19,7 +17,7 @@ use Rattle.reo_growth.specs.declared.web.Web.{Web}
 use Rattle.reo_growth.specs.Lists.{has, Among}
 use Rattle.reo_growth.specs.Web.{names_of, links_of, Moves as WebMoves, FiresAs, Together, here, joined, IsConnected}
 use Rattle.reo_growth.proofs.ListLemmas.{any_from, any_gives, has_among, among_has}
-use Rattle.reo_growth.proofs.VertexLemmas.{name_within, link_within}
+use Rattle.reo_growth.proofs.VertexLemmas.{name_within}
 use Rattle.reo_product.specs.RegionWeb.{name_at, LinkFires, IsWebAutomaton, IsRegionWeb}
 use Rattle.reo_product.specs.Laws.{Matches, WebsAreRegions}
 
@@ -33,7 +31,7 @@ one_place xs rising i j in_i in_j same = go (cases_order i j)
     go (inr (inr more)) = let h = AllPairs-from_increasing xs rising j i 0 more in_i in absurd (omega arith)
 
 -- a number is that of its automaton
-number_of : (c : RawCircuit) (n : ℕ) → automaton_number c (automaton_of c n) ≡ n
+pub number_of : (c : RawCircuit) (n : ℕ) → automaton_number c (automaton_of c n) ≡ n
 number_of c n = go (nat_lt n (length c.channels)) refl
   where
     go : (b : Bool) → nat_lt n (length c.channels) ≡ b → automaton_number c (cond b (OfChannel n) (OfNode (n - length c.channels))) ≡ n

@@ -4,3 +4,4 @@ pub mod SplitLemmas
 pub mod PlaceLemmas
 pub mod PlacedLemmas
 pub mod WebLemmas
+pub mod RegionLemmas

@@ -1,5 +1,5 @@
 -- Lists of places as lists of names.
-use Rattle.std.proofs.Common.{◌≡◌, ℕ, ◌+◌, ◌<◌, ◌≤◌, ◌⊎◌, inl, inr, List, [], ◌∷◌, length, map, get_or, Bool, true, false, ◌&&◌, refl, sym, ◌∙◌, ap, subst, arith}
+use Rattle.std.proofs.Common.{◌≡◌, ℕ, ◌+◌, ◌<◌, ◌⊎◌, inl, inr, List, [], ◌∷◌, length, map, get_or, Bool, true, ◌&&◌, refl, sym, ◌∙◌, ap, subst, arith}
 use Rattle.std.specs.Prelude.{nat_lt}
 use Rattle.std.specs.List.{AllByRecursion}
 use Rattle.std.specs.Ordering.{nat_cmp, ordering_then}
@@ -7,7 +7,7 @@ use Rattle.std.specs.declared.cmp.Ordering.TheVariants.{Less, Equal, Greater}
 use Rattle.std.specs.Cmp.{nat_cmp_is}
 use Rattle.std.specs.Cmp.Lexicographic.{slice_cmp}
 use Rattle.std.specs.List.Sorted.{IsStrictlyIncreasing, IsStrictlySortedBy}
-use Rattle.std.proofs.lemmas.Bool.{and_parts, and_from, cases_order, lt-ltb, ltb-true}
+use Rattle.std.proofs.lemmas.Bool.{and_parts, cases_order, lt-ltb, ltb-true}
 use Rattle.std.proofs.lemmas.List.{length-map, get_or-map}
 use Rattle.std.proofs.lemmas.List.Kept.{AllPairs-from_increasing}
 use Rattle.reo_net.specs.declared.circuit.RawCircuit.{RawCircuit}
@@ -21,7 +21,7 @@ use Rattle.reo_growth.specs.declared.table.TableRefusal.TheVariants.{TooLarge as
 use Rattle.reo_growth.specs.Table.{table_cmp, AreFirings as AreWebFirings, HasFirings as HasWebFirings, IsTableOf as IsWebTable, Refuses as WebRefuses}
 use Rattle.reo_growth.proofs.ListLemmas.{same_tests, has_among, among_has, among_map, map_gives, among_at}
 use Rattle.reo_product.specs.RegionWeb.{name_at, IsRegionWeb}
-use Rattle.reo_product.specs.Table.{IsFiring, AreFirings, HasFirings, HasGrowth, IsTableOf, Refuses}
+use Rattle.reo_product.specs.Table.{IsFiring, AreFirings, HasFirings, IsTableOf, Refuses}
 use Rattle.reo_product.specs.Refusal.{refusal_of}
 use Rattle.reo_product.specs.Laws.{Matches}
 use Rattle.reo_product.proofs.BridgeLemmas.{one_place, of_place, of_name, to_region, from_region}

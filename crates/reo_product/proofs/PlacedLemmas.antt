@@ -1,17 +1,17 @@
 -- A template by places is an automaton of the web.
-use Rattle.std.proofs.Common.{◌≡◌, ℕ, zero, suc, ◌+◌, ◌<◌, ◌≤◌, ◌⊎◌, inl, inr, List, [], ◌∷◌, ◌++◌, length, map, get_or, slice_get, All, Option, Some, None, Bool, true, false, refl, sym, ◌∙◌, ap, subst, arith}
+use Rattle.std.proofs.Common.{◌≡◌, ℕ, zero, suc, ◌<◌, inl, inr, List, [], ◌∷◌, length, map, slice_get, Some, Bool, true, refl, sym, ◌∙◌, ap, subst, arith}
 use Rattle.std.specs.List.Sorted.{IsStrictlyIncreasing}
 use Rattle.reo_net.specs.declared.circuit.RawCircuit.{RawCircuit}
 use Rattle.reo_net.specs.Regions.{Automaton, HasName, AutomatonFires}
 use Rattle.reo_automata.specs.declared.template.Link.{Link}
 use Rattle.reo_automata.specs.declared.template.Template.{Template}
-use Rattle.reo_automata.specs.Template.{Fires, IsTemplate}
+use Rattle.reo_automata.specs.Template.{IsTemplate}
 use Rattle.reo_growth.specs.declared.web.Automaton.{Automaton as WebAutomaton}
 use Rattle.reo_growth.specs.Lists.{has, Among}
-use Rattle.reo_growth.specs.Web.{Differ, AreApart}
+use Rattle.reo_growth.specs.Web.{AreApart}
 use Rattle.reo_growth.proofs.ListLemmas.{same_tests, has_among, among_has, among_map, map_gives, all_among}
 use Rattle.reo_product.specs.RegionWeb.{name_at, LinkFires, IsWebAutomaton}
-use Rattle.reo_product.specs.Places.{ArePlacesOf, AreEachPlacesOf, ArePaired, IsPlacedTemplate}
+use Rattle.reo_product.specs.Places.{ArePlacesOf, ArePaired, IsPlacedTemplate}
 use Rattle.reo_product.proofs.BridgeLemmas.{one_place}
 
 pub among_index : {A : Type 0} (xs : List A) (x : A) → Among x xs → (i : ℕ) × (slice_get xs i ≡ Some x)

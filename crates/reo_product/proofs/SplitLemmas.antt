@@ -1,8 +1,8 @@
 -- A product step splits, region by region, into connected firings.
-use Rattle.std.proofs.Common.{◌≡◌, ℕ, ◌+◌, ◌<◌, ◌≤◌, ◌⊎◌, inl, inr, ⊎_elim, List, [], ◌∷◌, length, slice_get, Bool, true, false, not, ◌&&◌, ◌||◌, Option, Some, None, is_some, refl, sym, ◌∙◌, ap, subst, arith}
-use Rattle.std.specs.Prelude.{nat_eq, nat_lt}
+use Rattle.std.proofs.Common.{◌≡◌, ℕ, ◌<◌, ⊎_elim, List, length, slice_get, Bool, true, ◌&&◌, Option, Some, None, is_some, refl, sym, ◌∙◌, ap, subst, arith}
+use Rattle.std.specs.Prelude.{nat_eq}
 use Rattle.std.specs.List.{list_any, range_with_len}
-use Rattle.std.proofs.lemmas.Bool.{false≢true, true≢false, and_parts, and_from, lt-ltb, ltb-true, eqb-true, eq-eqb}
+use Rattle.std.proofs.lemmas.Bool.{false≢true, and_parts, and_from, eqb-true, eq-eqb}
 use Rattle.reo_value.specs.declared.value.Value.{Value}
 use Rattle.reo_net.specs.declared.kind.Kind.{Kind}
 use Rattle.reo_net.specs.declared.kind.Kind.TheVariants.{Sync, Lossy, Drain, Fifo, Filter, Transform}
@@ -10,17 +10,17 @@ use Rattle.reo_net.specs.declared.circuit.Channel.{Channel}
 use Rattle.reo_net.specs.declared.circuit.RawCircuit.{RawCircuit}
 use Rattle.reo_net.specs.declared.circuit.Step.{Step}
 use Rattle.reo_net.specs.Names.{end_a, end_b}
-use Rattle.reo_net.specs.Kind.{is_fifo, fires_ends, ChannelStep, Buffers}
-use Rattle.reo_net.specs.Steps.{State, datum, fires_in, content, ProductStep, ChannelStays, ChannelMoves}
-use Rattle.reo_net.specs.Regions.{Automaton, OfChannel, OfNode, HasName, IsSynchronous, SameRegion, AutomatonFires, HangsTogether, Moves, IsConnectedFiring}
+use Rattle.reo_net.specs.Kind.{is_fifo, fires_ends, ChannelStep}
+use Rattle.reo_net.specs.Steps.{State, datum, fires_in, content, ProductStep}
+use Rattle.reo_net.specs.Regions.{Automaton, OfChannel, OfNode, HasName, IsSynchronous, SameRegion, AutomatonFires, HangsTogether, Moves}
 use Rattle.reo_net.specs.Regions.SameRegion.{here as region_here, linked as region_linked}
 use Rattle.reo_net.specs.Regions.HangsTogether.{here as together_here, linked as together_linked}
 use Rattle.reo_growth.specs.declared.web.Web.{Web}
-use Rattle.reo_growth.specs.Lists.{has, Among}
-use Rattle.reo_growth.specs.Web.{names_of, Moves as WebMoves, FiresAs}
+use Rattle.reo_growth.specs.Lists.{has}
+use Rattle.reo_growth.specs.Web.{names_of}
 use Rattle.reo_growth.specs.Growth.{places}
 use Rattle.reo_growth.specs.Laws.{IsJointFiring, IsPart as IsWebPart}
-use Rattle.reo_growth.proofs.ListLemmas.{same_tests, any_from, any_gives, among_range, range_gives}
+use Rattle.reo_growth.proofs.ListLemmas.{same_tests, any_from, any_gives, among_range}
 use Rattle.reo_growth.proofs.VertexLemmas.{name_within}
 use Rattle.reo_growth.proofs.SplitLemmas.{splits}
 use Rattle.reo_product.specs.RegionWeb.{name_at, IsRegionWeb}

@@ -1,5 +1,5 @@
 -- The web of a region, put together.
-use Rattle.std.proofs.Common.{◌≡◌, ℕ, zero, suc, ◌+◌, ◌*◌, ◌-◌, cond, ◌<◌, ◌≤◌, ◌^◌, ◌⊎◌, inl, inr, ⊎_elim, List, [], ◌∷◌, ◌++◌, length, map, take, get_or, slice_get, All, Contains, Option, Some, None, Bool, true, false, eqb, refl, sym, ◌∙◌, ap, subst, arith}
+use Rattle.std.proofs.Common.{◌≡◌, ℕ, zero, suc, ◌+◌, ◌-◌, cond, ◌<◌, ◌≤◌, ◌^◌, ◌⊎◌, inl, inr, ⊎_elim, List, [], ◌∷◌, ◌++◌, length, get_or, slice_get, All, Contains, Some, None, Bool, true, false, eqb, refl, sym, ◌∙◌, ap, subst, arith}
 use Rattle.std.specs.Prelude.{flat_map, nat_lt}
 use Rattle.std.specs.List.{dedup}
 use Rattle.std.specs.Option.{option_map_or}
@@ -16,7 +16,6 @@ use Rattle.reo_net.specs.Names.{end_a, end_b, name_count}
 use Rattle.reo_net.specs.Kind.{is_fifo}
 use Rattle.reo_net.specs.Checks.{IsChecked}
 use Rattle.reo_net.specs.Regions.{Automaton, OfChannel, OfNode, HasName}
-use Rattle.reo_automata.specs.declared.template.Link.{Link}
 use Rattle.reo_automata.specs.declared.template.Template.{Template}
 use Rattle.reo_automata.specs.Template.{automaton_of, IsTemplate}
 use Rattle.reo_growth.specs.declared.web.Automaton.{Automaton as WebAutomaton}
@@ -29,10 +28,10 @@ use Rattle.reo_growth.proofs.VertexLemmas.{name_within, link_within}
 use Rattle.reo_growth.proofs.ListLemmas.{has_among, among_has, among_at, among_place, among_flat_map, flat_map_gives, append_gives, among_front, among_back}
 use Rattle.reo_product.specs.RegionWeb.{name_at, IsWebAutomaton, IsRegionWeb}
 use Rattle.reo_product.specs.Places.{AreKnown, ArePaired, IsPlacedTemplate, IsKnownTemplate, AreTemplates, AreNamesOf, IsCell, AreCells, FindsCell, AreRegionAutomata}
-use Rattle.reo_net.proofs.NameLemmas.{end_a_below, end_b_below, name_below}
+use Rattle.reo_net.proofs.NameLemmas.{name_below}
 use Rattle.reo_product.proofs.BridgeLemmas.{one_place}
 use Rattle.reo_product.proofs.PlaceLemmas.{paired_length}
-use Rattle.reo_product.proofs.PlacedLemmas.{among_index, index_among, left_partner, right_partner, placed_automaton}
+use Rattle.reo_product.proofs.PlacedLemmas.{among_index, index_among, left_partner, placed_automaton}
 
 contains_among : (xs : List ℕ) (x : ℕ) → Contains xs x → Among x xs
 contains_among xs x h = subst (λ y. Among y xs) h.2 (among_at xs h.0 x h.1)

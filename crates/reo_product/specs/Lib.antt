@@ -3,3 +3,4 @@ pub mod Laws
 pub mod Table
 pub mod Places
 pub mod Refusal
+pub mod Region

@@ -1,4 +1,4 @@
-use Rattle.std.proofs.Common.{◌+◌, take, get_or, sym, subst, ◌∙◌}
+use Rattle.std.proofs.Common.{◌+◌, take, sym, subst}
 use Rattle.reo_product.specs.Places.{ArePlacesOf}
 use Rattle.reo_product.proofs.PlaceLemmas.{place_more}
 use Rattle.reo_product.proofs.places.places_of.Goals as goal

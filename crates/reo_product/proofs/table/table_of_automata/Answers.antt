@@ -1,8 +1,7 @@
-use Rattle.std.proofs.Common.{◌≡◌, ℕ, List, length, map, All, subst, sym, ap, ◌∙◌}
+use Rattle.std.proofs.Common.{length, map, All, subst, sym, ap, ◌∙◌}
 use Rattle.reo_growth.specs.Marks.{AreBelow}
-use Rattle.reo_growth.specs.Table.{AreFirings}
 use Rattle.reo_product.specs.RegionWeb.{name_at}
-use Rattle.reo_product.specs.Table.{IsTableOf, Refuses, names_in}
+use Rattle.reo_product.specs.Table.{IsTableOf, Refuses}
 use Rattle.reo_product.proofs.WebLemmas.{rows_within}
 use Rattle.reo_product.proofs.NamedLemmas.{table_named, refused_named}
 use Rattle.reo_product.proofs.table.table_of_automata.Goals as goal

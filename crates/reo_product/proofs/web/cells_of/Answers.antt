@@ -1,9 +1,8 @@
-use Rattle.std.proofs.Common.{◌≡◌, ◌+◌, ◌*◌, ◌++◌, ◌∷◌, [], List, length, slice_get, Some, None, refl, sym, subst, ap, ◌∙◌}
+use Rattle.std.proofs.Common.{◌≡◌, ◌+◌, ◌*◌, List, length, slice_get, Some, None, refl, sym, subst, ap, ◌∙◌}
 use Rattle.std.proofs.lemmas.Option.{slice_get_read}
 use Rattle.reo_net.specs.declared.circuit.Channel.{Channel}
 use Rattle.reo_net.specs.declared.circuit.Port.{Port}
 use Rattle.reo_net.specs.Names.{end_a}
-use Rattle.reo_net.specs.Kind.{is_fifo}
 use Rattle.reo_product.specs.Places.{AreCells, FindsCell}
 use Rattle.reo_product.proofs.WebLemmas.{cells_none, cells_some}
 use Rattle.reo_product.proofs.web.cells_of.Goals as goal

@@ -1,8 +1,8 @@
-use Rattle.std.proofs.Common.{All, ◌+◌, ◌++◌, ◌∷◌, [], take, get_or, sym, subst, ap}
+use Rattle.std.proofs.Common.{All, ◌+◌, ◌++◌, ◌∷◌, [], take, get_or, sym, subst}
 use Rattle.std.proofs.lemmas.List.{take_more}
 use Rattle.reo_automata.specs.declared.template.Link.{Link}
 use Rattle.reo_automata.specs.declared.template.Template.{Template}
-use Rattle.reo_product.specs.Places.{ArePaired, AreKnown, IsKnownTemplate, IsPlacedTemplate}
+use Rattle.reo_product.specs.Places.{ArePaired, AreKnown, IsPlacedTemplate}
 use Rattle.reo_product.proofs.PlaceLemmas.{paired_push}
 use Rattle.reo_product.proofs.web.place_templates.Goals as goal
 

@@ -1,9 +1,6 @@
-use Rattle.std.proofs.Common.{◌≡◌, ℕ, ◌+◌, ◌<◌, ◌≤◌, ◌^◌, List, length, All, subst, sym, ap, ◌∙◌, arith}
-use Rattle.std.specs.Prelude.{vec_len}
+use Rattle.std.proofs.Common.{◌≡◌, ◌<◌, length, All, subst, sym, ap, ◌∙◌, arith}
 use Rattle.std.proofs.lemmas.Grind.{common_steps}
-use Rattle.reo_automata.specs.declared.template.Template.{Template}
 use Rattle.reo_automata.specs.Template.{automaton_of, IsTemplate}
-use Rattle.reo_growth.specs.declared.web.Automaton.{Automaton as WebAutomaton}
 use Rattle.reo_product.specs.RegionWeb.{IsRegionWeb}
 use Rattle.reo_product.specs.Places.{AreNamesOf, AreCells, ArePaired, IsPlacedTemplate, IsKnownTemplate}
 use Rattle.reo_product.proofs.PlaceLemmas.{paired_length}
