@@ -145,8 +145,8 @@ fn sorted(alloc: Global, mut rows: Vec<Row>) -> Result<Items<Items<u32>>, AllocE
     names_of_rows(alloc, rows)
 }
 
-/// The table of a web, where neither its vertices nor its firings are too many. A vertex costs time in proportion to the
-/// names of the automaton that is open there.
+/// The table of a web, where neither its vertices nor its firings are too many. A vertex costs one
+/// copy of the marks of the web, of its automata and of its names, and a test for each of its FIFO1s.
 pub fn table_of(alloc: Global, web: Web) -> Result<Table, TableRefusal>
     requires web { IsWeb web }
     requires few { AreFew web }
