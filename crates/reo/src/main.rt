@@ -12,10 +12,6 @@ use std::io::ErrorKind;
 use std::process::ExitCode;
 
 #[cfg(test)]
-mod by_hand;
-#[cfg(test)]
-mod circuits;
-#[cfg(test)]
 mod cuts;
 #[cfg(test)]
 mod each_call;
@@ -33,8 +29,6 @@ mod refused_lines;
 mod rows;
 #[cfg(test)]
 mod seven;
-#[cfg(test)]
-mod tables;
 
 /// The words after the program's name. Words that are not UTF-8 count as none.
 fn words_of(rt: &HostRuntime) -> Result<Vec<String>, AllocError> {
