@@ -6,7 +6,7 @@ use Rattle.std.proofs.lemmas.List.{append-nil}
 use Rattle.std.proofs.lemmas.List.Elements.{filter-append}
 use Rattle.std.proofs.lemmas.List.FromFn.{map-range_with_len_more}
 use Rattle.reo_graph.specs.Closure.{count_below}
-use Rattle.reo_cut.proofs.MovedLemmas.{range_more}
+use Rattle.reo_cut.proofs.LabelLemmas.{range_more}
 
 pub count_none : (p : ℕ → Bool) → count_below p 0 ≡ 0
 unfolding count_below

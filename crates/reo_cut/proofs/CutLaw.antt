@@ -23,7 +23,7 @@ use Rattle.reo_cut.specs.declared.cut.CellCut.{CellCut}
 use Rattle.reo_cut.specs.Cut.{is_buffer, IsOfRegion, IsCellCut, IsCut}
 use Rattle.reo_cut.specs.Numbers.{is_root, region_at, cell_cut, own_cell, cells_below}
 use Rattle.reo_cut.proofs.CountLemmas.{place_of, length_passing, one_more}
-use Rattle.reo_cut.proofs.MovedLemmas.{range_rises}
+use Rattle.reo_cut.proofs.LabelLemmas.{range_rises}
 use Rattle.reo_cut.proofs.RelabelLaw.{linked_back, linked_on}
 
 -- the pairs are those of channels that are no FIFO1, with the nodes at their ends

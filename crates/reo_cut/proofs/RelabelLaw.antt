@@ -41,10 +41,10 @@ linked_back pairs x stays = stays
 linked_back pairs x (forth {a} b path is) = linked_on pairs b a (back a stays is) (linked_back pairs x path)
 linked_back pairs x (back a {b} path is) = linked_on pairs a b (forth b stays is) (linked_back pairs x path)
 
-moved_at : (from to : ℕ) → moved from to from ≡ to
+pub moved_at : (from to : ℕ) → moved from to from ≡ to
 moved_at from to = ap (λ b. cond b to from) (eq-eqb from from refl)
 
-moved_past : (from to label : ℕ) → (label ≡ from → ⊥) → moved from to label ≡ label
+pub moved_past : (from to label : ℕ) → (label ≡ from → ⊥) → moved from to label ≡ label
 moved_past from to label apart = ap (λ b. cond b to label) (ne_eqb label from apart)
 
 -- a pair whose ends have two labels, of which the greater gives way

@@ -40,9 +40,3 @@ pairs_of channels k channel =
 abbrev pub pairs_below : List Channel → ℕ → List (ℕ × ℕ)
 pairs_below channels zero = []
 pairs_below channels (suc k) = option_map_or (pairs_of (length channels) k) (slice_get channels k) [] ++ pairs_below channels k
-
--- the first labels, so many, are moved, and the others are as they were
-pub record MovedUpTo (from to i : ℕ) (old new : List ℕ) : Type 0 where
-  pub len : length new ≡ length old
-  pub done : (k : ℕ) → k < i → label_at new k ≡ moved from to (label_at old k)
-  pub rest : (k : ℕ) → i ≤ k → label_at new k ≡ label_at old k

@@ -1,3 +1,4 @@
 pub mod Labels
+pub mod Parents
 pub mod Cut
 pub mod Numbers

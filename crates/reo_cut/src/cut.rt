@@ -28,7 +28,7 @@ pub struct Cut {
     pub port_region: Items<u32>,
 }
 
-/// Cuts a circuit at its FIFO1s. Its time is in proportion to the channels times the automata.
+/// Cuts a circuit at its FIFO1s. Its time is near-linear in the automata: a forest of parents joins the regions.
 pub fn cut_of(alloc: Global, net: &Net) -> Result<Cut, AllocError>
     ensures exact { IfOk result (IsCut net.now) }
 {

@@ -2,58 +2,76 @@
 ghost use Rattle.std.specs.Prelude.{◌≡◌, ℕ, ◌+◌, ◌<◌, ◌^◌, List, [], ◌∷◌, map, length, All, IfOk, OnOk};
 ghost use Rattle.std.specs.List.{range_with_len};
 ghost use Rattle.reo_net.specs.Checks.{IsChecked};
-ghost use Rattle.reo_cut.specs.Labels.{moved, AreLabels, pairs_below};
+ghost use Rattle.reo_cut.specs.Labels.{AreLabels, label_at, pairs_below};
+ghost use Rattle.reo_cut.specs.Parents.{DoNotRise, LeadTo, AreParents, IsOnTheWay};
 
 use reo_net::{Channel, Net};
 use std::alloc::{AllocError, Global};
 
-fn moved(label: u32, from: u32, to: u32) -> u32
-    ensures { result ≡ moved from to label }
+/// The least number of this one's region: the one at which the parents end. The way there is halved.
+fn root(parents: &mut [u32], number: u32) -> u32
+    requires within { number < length parents.old }
+    requires falls { DoNotRise parents.old }
+    ensures way { IsOnTheWay number parents.old parents.new result }
+    ensures end { label_at parents.new result ≡ result }
 {
-    if label == from { to } else { label }
-}
-
-/// Puts one label in the place of another.
-fn relabel(labels: &mut [u32], from: u32, to: u32)
-    ensures { labels.new ≡ map (moved from to) labels.old }
-{
-    for label in labels.iter_mut() {
-        *label = moved(*label, from, to);
+    let mut place = number;
+    while parents[place as usize] < place {
+        let next = parents[parents[place as usize] as usize];
+        parents[place as usize] = next;
+        place = next;
     }
+    place
 }
 
-/// Makes the labels of two automata one: the lesser.
-fn join(labels: &mut [u32], one: u32, other: u32)
-    requires one { one < length labels.old }
-    requires other { other < length labels.old }
-    ensures len { length labels.new ≡ length labels.old }
-    ensures one_pair_more { (pairs : List (ℕ × ℕ)) (n : ℕ) → AreLabels pairs n labels.old → AreLabels ((one, other) ∷ pairs) n labels.new }
+/// Joins the regions of two automata: the greater root leads to the lesser.
+fn join(parents: &mut [u32], one: u32, other: u32)
+    requires one { one < length parents.old }
+    requires other { other < length parents.old }
+    requires falls { DoNotRise parents.old }
+    ensures len { length parents.new ≡ length parents.old }
+    ensures falls { DoNotRise parents.new }
+    ensures one_pair_more { (pairs : List (ℕ × ℕ)) (n : ℕ) → AreParents pairs n parents.old → AreParents ((one, other) ∷ pairs) n parents.new }
 {
-    let first = labels[one as usize];
-    let second = labels[other as usize];
+    let first = root(parents, one);
+    let second = root(parents, other);
     if first < second {
-        relabel(labels, second, first);
+        parents[second as usize] = first;
     } else {
-        relabel(labels, first, second);
+        parents[first as usize] = second;
     }
 }
 
-/// Joins each channel that is no FIFO1 with the nodes at its ends.
-fn join_channels(labels: &mut [u32], channels: &[Channel])
+/// Puts for each number the least of its region, where its parent stood.
+fn settle(parents: &mut [u32])
+    requires fit { length parents.old < 2 ^ 32 }
+    requires falls { DoNotRise parents.old }
+    ensures { (labels : List ℕ) → LeadTo labels parents.old → parents.new ≡ labels }
+{
+    for number in 0..parents.len() {
+        let parent = parents[number];
+        parents[number] = parents[parent as usize];
+    }
+}
+
+/// Joins each channel that is no FIFO1 with the nodes at its ends, and puts the labels where the parents stood.
+fn join_channels(parents: &mut [u32], channels: &[Channel])
     requires few { length channels.now < 2 ^ 31 }
-    requires ends_a { All (λ channel. length channels.now + channel.a < length labels.old) channels.now }
-    requires ends_b { All (λ channel. length channels.now + channel.b < length labels.old) channels.now }
-    requires fit { length labels.old < 2 ^ 32 }
-    ensures len { length labels.new ≡ length labels.old }
-    ensures joined { (n : ℕ) → AreLabels [] n labels.old → AreLabels (pairs_below channels.now (length channels.now)) n labels.new }
+    requires ends_a { All (λ channel. length channels.now + channel.a < length parents.old) channels.now }
+    requires ends_b { All (λ channel. length channels.now + channel.b < length parents.old) channels.now }
+    requires fit { length parents.old < 2 ^ 32 }
+    requires falls { DoNotRise parents.old }
+    ensures len { length parents.new ≡ length parents.old }
+    ensures joined { (n : ℕ) → AreParents [] n parents.old → AreLabels (pairs_below channels.now (length channels.now)) n parents.new }
 {
     let count = channels.len() as u32;
     for (number, channel) in channels.iter().enumerate() {
         if !channel.kind.is_fifo() {
-            join(labels, number as u32, count + channel.a);
-            join(labels, number as u32, count + channel.b);
+            join(parents, number as u32, count + channel.a);
+            join(parents, number as u32, count + channel.b);
         }
     }
+    settle(parents);
 }
 
 /// For each automaton, by its number, the least of those that hang together with it.

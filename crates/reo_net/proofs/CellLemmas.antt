@@ -1,10 +1,7 @@
 -- laws of states: a place for each FIFO1, in the order of the channels
-use Rattle.std.proofs.Common.{◌≡◌, ℕ, suc, zero, ◌+◌, ◌<◌, ◌≤◌, Bool, true, false, cond, List, [], ◌∷◌, ◌++◌, length, slice_get, get_or, take, count_by, flat_map, Option, Some, None, refl, sym, ap, ◌∙◌, subst, arith}
+use Rattle.std.proofs.Common.{◌≡◌, ℕ, suc, zero, ◌+◌, ◌<◌, Bool, true, false, cond, List, [], ◌∷◌, length, slice_get, get_or, take, count_by, flat_map, Some, None, refl, sym, ap, ◌∙◌, arith}
 use Rattle.std.proofs.lemmas.List.Sums.{sum_by-cons}
-use Rattle.std.proofs.lemmas.Option.{same_Some}
-use Rattle.reo_value.specs.declared.value.Value.{Value}
 use Rattle.reo_net.specs.declared.kind.Kind.{Kind}
-use Rattle.reo_net.specs.declared.kind.Kind.TheVariants.{Fifo}
 use Rattle.reo_net.specs.declared.circuit.Channel.{Channel}
 use Rattle.reo_net.specs.declared.circuit.RawCircuit.{RawCircuit}
 use Rattle.reo_net.specs.Kind.{is_fifo, first_content}

@@ -1,8 +1,8 @@
 -- how the tables of nodes with a channel's end grow with the next channel
-use Rattle.std.proofs.Common.{◌≡◌, ℕ, ◌+◌, ◌<◌, ◌⊎◌, ⊎_elim, inl, inr, Bool, true, false, not, List, length, slice_get, set, replicate, Some, sym, refl, ap, ◌∙◌, arith}
+use Rattle.std.proofs.Common.{◌≡◌, ℕ, ◌+◌, ◌<◌, ◌⊎◌, ⊎_elim, inl, inr, Bool, true, false, not, List, slice_get, set, Some, refl, ap, arith}
 use Rattle.reo_net.specs.declared.circuit.Channel.{Channel}
 use Rattle.reo_net.specs.Tables.{Marks, IsKeyBelow, IsPassBelow, IsSourceBelow, comes_out}
-use Rattle.reo_net.proofs.TableLemmas.{Marks-set, Marks-same, Marks-nothing, IsKeyBelow-more, IsKeyBelow-cases, IsPassBelow-more, IsPassBelow-cases, IsPassBelow-hit, IsPassBelow-miss}
+use Rattle.reo_net.proofs.TableLemmas.{Marks-set, Marks-same, IsKeyBelow-more, IsKeyBelow-cases, IsPassBelow-more, IsPassBelow-cases, IsPassBelow-hit, IsPassBelow-miss}
 
 module _ (channels : List Channel) (table : List Bool) (n i : ℕ) (x : Channel) (here : slice_get channels i ≡ Some x) where
   -- data come out of the next channel at its end b

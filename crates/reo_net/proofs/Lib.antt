@@ -6,6 +6,8 @@ pub mod CheckLemmas
 pub mod LoopLemmas
 pub mod NameLemmas
 pub mod StandLemmas
+pub mod JoinLemmas
+pub mod ProductLemmas
 pub mod FifoLemmas
 pub mod RunLemmas
 pub mod RegionLemmas

@@ -1,5 +1,5 @@
 -- loops of channels that hand data on, and the ranks of nodes
-use Rattle.std.proofs.Common.{◌≡◌, ℕ, zero, suc, ◌<◌, Bool, true, false, ◌&&◌, ◌||◌, List, [], ◌∷◌, filter_map, length, slice_get, nat_eq, Option, Some, None, refl, sym, ap, ◌∙◌, subst, arith}
+use Rattle.std.proofs.Common.{◌≡◌, ℕ, zero, suc, ◌<◌, Bool, true, false, ◌&&◌, ◌||◌, List, [], ◌∷◌, filter_map, slice_get, nat_eq, Some, refl, sym, ap, ◌∙◌, subst}
 use Rattle.std.specs.List.{list_any}
 use Rattle.std.specs.Cmp.Derive.{both_true}
 use Rattle.std.proofs.Math.Bool.{or-true}
@@ -14,7 +14,7 @@ use Rattle.reo_net.specs.declared.circuit.RawCircuit.{RawCircuit}
 use Rattle.reo_net.specs.Kind.{hands_on}
 use Rattle.reo_net.specs.Tables.{handing_edge}
 use Rattle.reo_net.specs.Loops.{hands_over, IsOnLoop}
-use Rattle.reo_net.specs.Checks.{IsCircuit, IsChecked}
+use Rattle.reo_net.specs.Checks.{IsCircuit}
 use Rattle.reo_net.specs.Laws.{RanksRiseAlongChannels}
 
 -- whether the channel hands data on from x to y

@@ -1,14 +1,14 @@
 -- two lists of all the regions of a circuit are one list
-use Rattle.std.proofs.Common.{◌≡◌, ℕ, suc, zero, ◌+◌, ◌<◌, ◌≤◌, List, [], ◌∷◌, length, map, get_or, slice_get, Contains, Some, refl, sym, ap, ◌∙◌, subst, ext_get_or, add-one, arith}
+use Rattle.std.proofs.Common.{◌≡◌, ℕ, suc, zero, ◌+◌, ◌<◌, ◌≤◌, List, [], ◌∷◌, length, map, get_or, Contains, refl, sym, ap, ◌∙◌, subst, ext_get_or, add-one, arith}
 use Rattle.std.specs.List.Sorted.{IsStrictlyIncreasing}
-use Rattle.std.proofs.lemmas.List.{length-map, get_or-map, get_or_default}
+use Rattle.std.proofs.lemmas.List.{length-map, get_or-map}
 use Rattle.std.proofs.lemmas.Option.{slice_get_within}
 use Rattle.reo_net.specs.declared.circuit.RawCircuit.{RawCircuit}
-use Rattle.reo_net.specs.Regions.{Automaton, OfChannel, OfNode, automaton_number, IsSynchronous, IsRegion, AreRegions}
+use Rattle.reo_net.specs.Regions.{Automaton, OfChannel, OfNode, automaton_number, IsSynchronous, AreRegions}
 use Rattle.reo_net.specs.Laws.{RegionsAreOneList}
 
 -- the number stands in the list
-StandsIn : List ℕ → ℕ → Type 0
+unfoldable pub StandsIn : List ℕ → ℕ → Type 0
 StandsIn xs n = (k : ℕ) × (k < length xs) × (get_or xs k 0 ≡ n)
 
 -- an element is below the next, written as a list with a head has it
@@ -36,7 +36,8 @@ unfolding StandsIn
 in_tail x y n ys same above (zero, within, at) = absurd (omega (arith, at))
 in_tail x y n ys same above (suc k, within, at) = (k, omega (arith, within), at)
 
-same_list : (xs ys : List ℕ) → IsStrictlyIncreasing xs → IsStrictlyIncreasing ys → ((n : ℕ) → StandsIn xs n → StandsIn ys n) → ((n : ℕ) → StandsIn ys n → StandsIn xs n) → xs ≡ ys
+-- two rising lists with the same numbers are one
+pub same_list : (xs ys : List ℕ) → IsStrictlyIncreasing xs → IsStrictlyIncreasing ys → ((n : ℕ) → StandsIn xs n → StandsIn ys n) → ((n : ℕ) → StandsIn ys n → StandsIn xs n) → xs ≡ ys
 unfolding StandsIn
 same_list [] [] rises_x rises_y to from = refl
 same_list [] (y ∷ ys) rises_x rises_y to from = absurd (omega (arith, (from y (0, omega arith, refl)).1))

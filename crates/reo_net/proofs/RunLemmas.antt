@@ -1,13 +1,11 @@
 -- the steps of a run determine the state that it ends in
-use Rattle.std.proofs.Common.{◌≡◌, ℕ, ◌<◌, ◌⊎◌, ⊎_elim, List, [], ◌∷◌, length, get_or, Bool, true, Option, Some, None, sym, ap, ◌∙◌, subst, ext_get_or, arith}
-use Rattle.reo_value.specs.declared.value.Value.{Value}
+use Rattle.std.proofs.Common.{◌≡◌, ℕ, ◌<◌, ◌⊎◌, ⊎_elim, List, [], ◌∷◌, length, get_or, None, sym, ap, ◌∙◌, subst, ext_get_or}
 use Rattle.reo_net.specs.declared.kind.Kind.{Kind}
-use Rattle.reo_net.specs.declared.circuit.Channel.{Channel}
 use Rattle.reo_net.specs.declared.circuit.RawCircuit.{RawCircuit}
 use Rattle.reo_net.specs.declared.circuit.Step.{Step}
 use Rattle.reo_net.specs.Names.{end_a, end_b}
 use Rattle.reo_net.specs.Kind.{ChannelStep}
-use Rattle.reo_net.specs.Steps.{State, Data, datum, content, cell_of, ChannelStays, ChannelMoves, ProductStep}
+use Rattle.reo_net.specs.Steps.{State, Data, datum, content, ChannelStays, ChannelMoves, ProductStep}
 use Rattle.reo_net.specs.Runs.{Run}
 use Rattle.reo_net.specs.Laws.{RunsEndOnce}
 use Rattle.reo_net.proofs.KindLemmas.{same_move, no_quiet_move}

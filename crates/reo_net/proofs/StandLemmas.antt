@@ -1,5 +1,5 @@
 -- where a name stands is what the definitions of names say
-use Rattle.std.proofs.Common.{◌≡◌, ◌↔◌, ℕ, ◌+◌, ◌-◌, ◌*◌, ◌/◌, ◌%◌, ◌<◌, ◌≤◌, ◌⊎◌, ⊎_elim, inl, inr, Bool, true, false, cond, List, length, slice_get, nat_eq, nat_lt, Option, Some, None, refl, sym, ap, ◌∙◌, subst, arith}
+use Rattle.std.proofs.Common.{◌≡◌, ◌↔◌, ℕ, ◌-◌, ◌/◌, ◌%◌, ◌<◌, ◌≤◌, ◌⊎◌, ⊎_elim, inl, inr, true, false, cond, length, slice_get, nat_eq, Option, Some, None, refl, sym, ap, ◌∙◌, arith}
 use Rattle.std.specs.Option.{option_map}
 use Rattle.std.proofs.lemmas.Bool.{cases_lt, cases_eq, lt-ltb, le-ltb, eq-eqb, ne_eqb}
 use Rattle.std.proofs.lemmas.Option.{same_Some, slice_get_within}
@@ -10,7 +10,7 @@ use Rattle.reo_net.specs.declared.circuit.Port.{Port}
 use Rattle.reo_net.specs.declared.circuit.RawCircuit.{RawCircuit}
 use Rattle.reo_net.specs.declared.stand.Stand.{Stand}
 use Rattle.reo_net.specs.Kind.{Direction, Incoming, Outgoing, is_incoming, direction_of_b}
-use Rattle.reo_net.specs.Names.{end_a, end_b, IsPortAt, IsEndA, IsEndB, IsIncoming, IsOutgoing}
+use Rattle.reo_net.specs.Names.{end_a, end_b, IsPortAt, IsIncoming, IsOutgoing}
 use Rattle.reo_net.specs.Stand.{is_put, stand_of_port, stand_of_end, stand_of}
 
 module _ (c : RawCircuit) where

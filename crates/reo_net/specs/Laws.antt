@@ -6,9 +6,10 @@ use Rattle.reo_net.specs.declared.circuit.RawCircuit.{RawCircuit}
 use Rattle.reo_net.specs.declared.circuit.Step.{Step}
 use Rattle.reo_net.specs.Names.{name_count, IsNameOf, IsIncoming, IsOutgoing}
 use Rattle.reo_net.specs.Stand.{stand_of}
-use Rattle.reo_net.specs.Steps.{State, NodeFires}
+use Rattle.reo_net.specs.Steps.{State, Data, datum, IsStep, IsState, ProductStep, NodeFires}
 use Rattle.reo_net.specs.Runs.{Run}
 use Rattle.reo_net.specs.Regions.{Automaton, OfNode, SameRegion, AreRegions, FiresNoCellTwice, IsConnectedFiring}
+use Rattle.reo_net.specs.Join.{joined, AreAutomata}
 use Rattle.reo_net.specs.Kind.{hands_on}
 use Rattle.reo_net.specs.Loops.{node_rank}
 use Rattle.reo_net.specs.Checks.{IsCircuit, IsChecked, IsFifoOnly}
@@ -16,6 +17,18 @@ use Rattle.reo_net.specs.Checks.{IsCircuit, IsChecked, IsFifoOnly}
 -- a run's steps determine the state that it ends in
 abbrev pub RunsEndOnce : Type 0
 RunsEndOnce = (c : RawCircuit) (texts : List (List ℕ)) (from : State) (steps : List Step) (x y : State) → Run c texts from steps x → Run c texts from steps y → x ≡ y
+
+-- the steps of the product are the transitions of the automaton that joining all channels and nodes gives, in any order
+abbrev pub StepsAreJoined : Type 0
+StepsAreJoined = (c : RawCircuit) (texts : List (List ℕ)) (xs : List Automaton) → IsCircuit c → AreAutomata c xs
+    → (old : State) (step : Step) (new : State) → IsStep c step → IsState c old → IsState c new
+    → ProductStep c texts old step new ↔ (joined c texts xs).Moves old (datum step) new
+
+-- and each of its transitions has the data of a step
+abbrev pub JoinedIsStep : Type 0
+JoinedIsStep = (c : RawCircuit) (texts : List (List ℕ)) (xs : List Automaton) → IsCircuit c → AreAutomata c xs
+    → (old : State) (d : Data) (new : State) → (joined c texts xs).Moves old d new
+    → (step : Step) × IsStep c step × ((name : ℕ) → datum step name ≡ d name)
 
 -- no name is of two nodes
 abbrev pub NamesHaveOneNode : Type 0

@@ -5,6 +5,7 @@ pub mod Steps
 pub mod Parts
 pub mod Runs
 pub mod Regions
+pub mod Join
 pub mod Loops
 pub mod Tables
 pub mod Checks

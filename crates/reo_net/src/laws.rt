@@ -1,9 +1,15 @@
 //! Laws about the definitions, each a function that does nothing.
-ghost use Rattle.reo_net.specs.Laws.{RunsEndOnce, NamesHaveOneNode, NamesHaveOneDirection, NodesHaveTheNames, StandsAreTold, RanksRiseAlongChannels, RegionsAreOneList, NodesAreRegions, RegionsAreSingle, FiringsAreNodes};
+ghost use Rattle.reo_net.specs.Laws.{RunsEndOnce, NamesHaveOneNode, NamesHaveOneDirection, NodesHaveTheNames, StandsAreTold, RanksRiseAlongChannels, RegionsAreOneList, NodesAreRegions, RegionsAreSingle, FiringsAreNodes, StepsAreJoined, JoinedIsStep};
 
 /// The steps of a run determine the state that it ends in.
 pub fn run_determines_its_final_state()
     ensures { RunsEndOnce }
+{}
+
+/// A step of the product is what the binary join of constraint automata gives, folded over all channels and nodes in any order.
+pub fn product_is_the_join()
+    ensures steps { StepsAreJoined }
+    ensures only { JoinedIsStep }
 {}
 
 /// Each name is of one node, and goes one way there, which `stand_of` tells.

@@ -1,14 +1,13 @@
-use Rattle.std.proofs.Common.{◌∷◌, inl, inr, refl, sym, subst, arith}
-use Rattle.reo_cut.specs.Labels.{AreLabels}
-use Rattle.reo_cut.proofs.RelabelLaw.{relabelled}
+use Rattle.std.proofs.Common.{arith}
+use Rattle.reo_cut.proofs.ParentLemmas.{second_to_first, first_to_second}
 use Rattle.reo_cut.proofs.labels.join.Goals as goal
 
 pub returns-then-first-second-clause-one_pair_more : goal.returns-then-first-second-clause-one_pair_more
 returns-then-first-second-clause-one_pair_more c = λ pairs n are.
-    subst (AreLabels ((c.args.one, c.args.other) ∷ pairs) n) (sym c.relabel.ensures)
-    (relabelled pairs n c.args.labels.now are c.args.other c.args.one c.args.one c.args.other (omega (arith, are.len)) (omega (arith, are.len)) (omega arith) (inr (refl, refl)))
+    second_to_first c.args.one c.args.other c.args.parents.now c.root-first.new.parents c.root-second.new.parents c.root-first.result c.root-second.result
+    c.root-first.ensures.way c.root-first.ensures.end c.root-second.ensures.way c.root-second.ensures.end c.requires.one c.requires.other pairs n are (omega (arith, c.if-first-second.true))
 
 pub returns-else-first-second-clause-one_pair_more : goal.returns-else-first-second-clause-one_pair_more
 returns-else-first-second-clause-one_pair_more c = λ pairs n are.
-    subst (AreLabels ((c.args.one, c.args.other) ∷ pairs) n) (sym c.relabel-else-first-second.ensures)
-    (relabelled pairs n c.args.labels.now are c.args.one c.args.other c.args.one c.args.other (omega (arith, are.len)) (omega (arith, are.len)) (omega arith) (inl (refl, refl)))
+    first_to_second c.args.one c.args.other c.args.parents.now c.root-first.new.parents c.root-second.new.parents c.root-first.result c.root-second.result
+    c.root-first.ensures.way c.root-first.ensures.end c.root-second.ensures.way c.root-second.ensures.end c.requires.one c.requires.other pairs n are c.if-first-second.false

@@ -1,5 +1,5 @@
 use Rattle.std.proofs.Common.{◌∷◌, [], ◌++◌, sym, ap, ◌∙◌}
-use Rattle.reo_cut.proofs.MovedLemmas.{range_more}
+use Rattle.reo_cut.proofs.LabelLemmas.{range_more}
 use Rattle.reo_cut.proofs.labels.own_labels.Goals as goal
 
 pub loop-label-preserved : goal.loop-label-preserved

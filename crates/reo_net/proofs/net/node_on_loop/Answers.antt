@@ -1,4 +1,4 @@
-use Rattle.std.proofs.Common.{ℕ, List, subst, sym, ◌∙◌, ap, filter_map}
+use Rattle.std.proofs.Common.{ℕ, List, subst, ◌∙◌, ap, filter_map}
 use Rattle.reo_graph.specs.Paths.{IsLeast}
 use Rattle.reo_graph.specs.Paths.{IsOnLoop as IsLooped}
 use Rattle.reo_graph.proofs.LeastLemmas.{IsLeast-same}

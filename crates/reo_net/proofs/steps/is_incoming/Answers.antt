@@ -1,4 +1,4 @@
-use Rattle.std.proofs.Common.{◌≡◌, ◌↔◌, true, false, Option, Some, IsTrue, subst}
+use Rattle.std.proofs.Common.{◌≡◌, ◌↔◌, true, Option, Some, IsTrue, subst}
 use Rattle.reo_net.specs.declared.stand.Stand.{Stand}
 use Rattle.reo_net.proofs.StandLemmas.{incoming_stands}
 use Rattle.reo_net.proofs.steps.is_incoming.Goals as goal

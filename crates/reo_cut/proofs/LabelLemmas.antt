@@ -1,31 +1,11 @@
--- labels moved one after the other
-use Rattle.std.proofs.Common.{◌≡◌, ℕ, ◌+◌, ◌<◌, ◌≤◌, ⊎_elim, All, List, [], ◌∷◌, ◌++◌, length, take, drop, map, get_or, set, refl, sym, ap, ◌∙◌, subst, ext_get_or, arith, length-set, get_or-set_same, get_or-set_other, zero-add}
-use Rattle.std.proofs.lemmas.Bool.{cases_eq}
+-- lists of labels
+use Rattle.std.proofs.Common.{◌≡◌, ℕ, ◌+◌, ◌<◌, All, List, [], ◌∷◌, ◌++◌, length, take, drop, get_or, sym, ap, ◌∙◌, subst, arith, zero-add}
 use Rattle.std.specs.List.{range_with_len}
 use Rattle.std.specs.List.Sorted.{IsStrictlyIncreasing}
-use Rattle.std.proofs.lemmas.List.{length-map, get_or-map, map-id, append-nil, take_all, drop_all}
+use Rattle.std.proofs.lemmas.List.{map-id, append-nil, take_all, drop_all}
 use Rattle.std.proofs.lemmas.List.FromFn.{map-range_with_len_more, length-range_with_len, get_or-range_with_len}
 use Rattle.reo_net.specs.declared.circuit.Channel.{Channel}
 use Rattle.reo_net.specs.declared.circuit.RawCircuit.{RawCircuit}
-use Rattle.reo_cut.specs.Labels.{moved, label_at, MovedUpTo}
-
-pub moved_none : (from to : ℕ) (labels : List ℕ) → MovedUpTo from to 0 labels labels
-moved_none from to labels = record { len = refl; done = λ k h. absurd (omega (arith, h)); rest = λ k h. refl }
-
-pub moved_more : (from to i : ℕ) (old labels : List ℕ) (label : ℕ) → i < length old → MovedUpTo from to i old labels → label ≡ moved from to (label_at labels i) → MovedUpTo from to (i + 1) old (set labels i label)
-moved_more from to i old labels label within so_far is = record {
-  len = length-set labels i label ∙ so_far.len;
-  done = λ k h. ⊎_elim
-      (λ same. subst (λ j. label_at (set labels i label) j ≡ moved from to (label_at old j)) (sym same) (get_or-set_same labels i label 0 (omega (arith, within, so_far.len)) ∙ (is ∙ ap (moved from to) (so_far.rest i (omega arith)))))
-      (λ apart. get_or-set_other labels i k label 0 apart ∙ so_far.done k (omega (arith, h, apart)))
-      (cases_eq k i);
-  rest = λ k h. get_or-set_other labels i k label 0 (λ e. omega (arith, h, e)) ∙ so_far.rest k (omega (arith, h));
-}
-
-pub moved_all : (from to i : ℕ) (old labels : List ℕ) → length old ≤ i → MovedUpTo from to i old labels → labels ≡ map (moved from to) old
-moved_all from to i old labels past so_far =
-    ext_get_or 0 labels (map (moved from to) old) (so_far.len ∙ sym (length-map old (moved from to))) (λ k h.
-    so_far.done k (omega (arith, h, past, so_far.len)) ∙ sym (get_or-map (moved from to) old k 0 0 (omega (arith, h, so_far.len))))
 
 pub range_more : (n : ℕ) → range_with_len 0 (n + 1) ≡ range_with_len 0 n ++ n ∷ []
 range_more n =
