@@ -5,6 +5,7 @@ pub mod RuleLemmas
 pub mod SoundLemmas
 pub mod InsideLemmas
 pub mod OnceLemmas
+pub mod DistinctLemmas
 pub mod AgreeLemmas
 pub mod MarkLemmas
 pub mod WentLemmas

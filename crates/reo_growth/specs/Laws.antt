@@ -26,6 +26,10 @@ GrowsOnce = (w : Web) → IsWeb w → (F : ℕ → Bool) → AtMostOne (StandsFo
 abbrev pub VerticesByRule : Type 0
 VerticesByRule = (w : Web) (root : ℕ) (v : Vertex) → Among v (vertices_of w root) ↔ IsVertex w root v
 
+-- no vertex stands twice among all of them
+abbrev pub VerticesOnce : Type 0
+VerticesOnce = (w : Web) → IsWeb w → (v : Vertex) → AtMostOne (λ other. other ≡ v) (vertices w)
+
 -- a link agrees with every automaton of a vertex exactly where it agrees with the vertex as a whole
 abbrev pub AgreesAsOne : Type 0
 AgreesAsOne = (w : Web) → IsWeb w → (v : Vertex) → Among v (vertices w) → (x : ℕ) (link : List ℕ) → agrees w v x link ≡ agrees_as_one w v x link

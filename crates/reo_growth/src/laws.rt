@@ -1,5 +1,5 @@
 //! Laws about the definitions, each a function that does nothing.
-ghost use Rattle.reo_growth.specs.Laws.{GrowsAll, GrowsOnly, GrowsOnce, AgreesAsOne, VerticesByRule, SplitsIntoParts, PartsShareNothing};
+ghost use Rattle.reo_growth.specs.Laws.{GrowsAll, GrowsOnly, GrowsOnce, AgreesAsOne, VerticesByRule, VerticesOnce, SplitsIntoParts, PartsShareNothing};
 
 /// The vertices at which no automaton is open are the connected firings, each once.
 pub fn connected_firings_are_grown()
@@ -8,9 +8,10 @@ pub fn connected_firings_are_grown()
     ensures once { GrowsOnce }
 {}
 
-/// The vertices of a root are those that the rules give.
+/// The vertices of a root are those that the rules give, and no vertex stands twice among those of all roots.
 pub fn vertices_are_by_rule()
-    ensures { VerticesByRule }
+    ensures rule { VerticesByRule }
+    ensures once { VerticesOnce }
 {}
 
 /// In a vertex, a link agrees with every automaton exactly where it agrees with all of them as one.

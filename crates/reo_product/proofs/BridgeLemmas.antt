@@ -47,18 +47,30 @@ module _ (c : RawCircuit) (root : Automaton) (names : List ℕ) (w : Web) (web :
   one_number i j in_i in_j same =
       one_place web.region web.in_order i j in_i in_j (sym (number_of c (get_or web.region i 0)) ∙ ap (automaton_number c) same ∙ number_of c (get_or web.region j 0))
 
-  nobody : WebAutomaton
+  pub number_at : (i : ℕ) → automaton_number c (at i) ≡ get_or web.region i 0
+  unfolding at
+  number_at i = number_of c (get_or web.region i 0)
+
+  pub of_region : (i : ℕ) → i < length web.region → SameRegion c root (at i)
+  unfolding at
+  of_region i below = web.only i below
+
+  pub place_in : (x : Automaton) → SameRegion c root x → (i : ℕ) × (i < length web.region) × (at i ≡ x)
+  unfolding at
+  place_in x path = web.all x path
+
+  pub nobody : WebAutomaton
   nobody = record { names = []; links = [] }
 
-  automaton_at : (i : ℕ) → i < length w.automata → IsWebAutomaton c names (at i) (get_or w.automata i nobody)
+  pub automaton_at : (i : ℕ) → i < length w.automata → IsWebAutomaton c names (at i) (get_or w.automata i nobody)
   unfolding at
   automaton_at i below = web.each i (get_or w.automata i nobody) (slice_get-get_or w.automata i nobody below)
 
-  names_are : (i : ℕ) → i < length w.automata → names_of w i ≡ (get_or w.automata i nobody).names
+  pub names_are : (i : ℕ) → i < length w.automata → names_of w i ≡ (get_or w.automata i nobody).names
   unfolding names_of
   names_are i below = ap (λ o. option_map_or (λ automaton. automaton.names) o []) (slice_get-get_or w.automata i nobody below)
 
-  links_are : (i : ℕ) → i < length w.automata → links_of w i ≡ (get_or w.automata i nobody).links
+  pub links_are : (i : ℕ) → i < length w.automata → links_of w i ≡ (get_or w.automata i nobody).links
   unfolding links_of
   links_are i below = ap (λ o. option_map_or (λ automaton. automaton.links) o []) (slice_get-get_or w.automata i nobody below)
 

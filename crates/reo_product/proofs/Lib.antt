@@ -1,7 +1,11 @@
 pub mod BridgeLemmas
 pub mod NamedLemmas
+pub mod GrowthLemmas
+pub mod CountLemmas
 pub mod SplitLemmas
 pub mod PlaceLemmas
 pub mod PlacedLemmas
+pub mod MadeLemmas
 pub mod WebLemmas
 pub mod RegionLemmas
+pub mod ExistLemmas

@@ -22,11 +22,12 @@ use Rattle.reo_growth.specs.Table.{table_cmp, AreFirings as AreWebFirings, HasFi
 use Rattle.reo_growth.proofs.ListLemmas.{same_tests, has_among, among_has, among_map, map_gives, among_at}
 use Rattle.reo_product.specs.RegionWeb.{name_at, IsRegionWeb}
 use Rattle.reo_product.specs.Table.{IsFiring, AreFirings, HasFirings, IsTableOf, Refuses}
+use Rattle.reo_product.specs.Growth.{HasGrowth}
 use Rattle.reo_product.specs.Refusal.{refusal_of}
 use Rattle.reo_product.specs.Laws.{Matches}
 use Rattle.reo_product.proofs.BridgeLemmas.{one_place, of_place, of_name, to_region, from_region}
 
-once_injective : {A B : Type 0} (f : A → B) (rows : List A) → ((r s : A) → Among r rows → Among s rows → f r ≡ f s → r ≡ s) → ((x : A) → AtMostOne (λ o. o ≡ x) rows) → (y : B) → AtMostOne (λ o. o ≡ y) (map f rows)
+pub once_injective : {A B : Type 0} (f : A → B) (rows : List A) → ((r s : A) → Among r rows → Among s rows → f r ≡ f s → r ≡ s) → ((x : A) → AtMostOne (λ o. o ≡ x) rows) → (y : B) → AtMostOne (λ o. o ≡ y) (map f rows)
 once_injective f [] inject once y = tt
 once_injective f (r ∷ rs) inject once y = (
   λ is z at also.
@@ -91,7 +92,7 @@ module _ (names : List ℕ) (rising : IsStrictlyIncreasing names) where
       heads [] all less = tt
       heads (y ∷ ys) all less = (rows_cmp r y (within r (inl refl)) (all y (inl refl)) ∙ less.0, heads ys (λ s at. all s (inr at)) less.1)
 
-  rising_named : (row : List ℕ) → Within row → IsStrictlyIncreasing row → IsStrictlyIncreasing (named row)
+  pub rising_named : (row : List ℕ) → ((place : ℕ) → Among place row → place < length names) → IsStrictlyIncreasing row → IsStrictlyIncreasing (map (name_at names) row)
   unfolding named Within
   rising_named row within rises_row k h =
       let long = length-map row (name_at names) in
@@ -162,10 +163,10 @@ module _ (c : RawCircuit) (root : Automaton) (names : List ℕ) (w : Web) (web :
     once = once_injective (map (name_at names)) rows (λ r s in_r in_s is. inject names web.rising r s (row_within r (all.only r in_r).connected) (row_within s (all.only s in_s).connected) is) all.once;
   }
 
-  pub table_named : (growth : ℕ) (rows : List (List ℕ)) → IsWebTable w growth rows → IsTableOf c root growth (map (map (name_at names)) rows)
+  pub table_named : (growth : ℕ) (rows : List (List ℕ)) → HasGrowth c root (growth_count w) → IsWebTable w growth rows → IsTableOf c root growth (map (map (name_at names)) rows)
   unfolding named Within
-  table_named growth rows table = record {
-    counted = record { names = names; web = w; is_web = web; counted = sym table.counted };
+  table_named growth rows grows table = record {
+    counted = subst (HasGrowth c root) (sym table.counted) grows;
     grown = table.grown;
     listed = firings_named rows table.listed;
     few = let long = length-map rows (map (name_at names)) in let h = table.few in omega arith;
@@ -180,9 +181,9 @@ module _ (c : RawCircuit) (root : Automaton) (names : List ℕ) (w : Web) (web :
   }
 
 -- the refusal of a region by that of its web
-pub refused_named : (c : RawCircuit) (root : Automaton) (names : List ℕ) (w : Web) → IsRegionWeb c root names w → (region : ℕ) (why : TableRefusal) → WebRefuses w why → Refuses c root region (refusal_of region why)
-refused_named c root names w web region (WebTooLarge count) (inl over) =
-    (refl, inl (growth_count w, record { names = names; web = w; is_web = web; counted = refl }, over.0, over.1))
-refused_named c root names w web region (WebTooLarge count) (inr many) =
-    (refl, inr (growth_count w, record { names = names; web = w; is_web = web; counted = refl }, many.0, many.1, count_named c root names w web count many.2))
-refused_named c root names w web region WebNoMemory refused = tt
+pub refused_named : (c : RawCircuit) (root : Automaton) (names : List ℕ) (w : Web) → IsRegionWeb c root names w → HasGrowth c root (growth_count w) → (region : ℕ) (why : TableRefusal) → WebRefuses w why → Refuses c root region (refusal_of region why)
+refused_named c root names w web grows region (WebTooLarge count) (inl over) =
+    (refl, inl (growth_count w, grows, over.0, over.1))
+refused_named c root names w web grows region (WebTooLarge count) (inr many) =
+    (refl, inr (growth_count w, grows, many.0, many.1, count_named c root names w web count many.2))
+refused_named c root names w web grows region WebNoMemory refused = tt

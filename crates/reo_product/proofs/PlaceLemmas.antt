@@ -36,7 +36,7 @@ paired_length R [] (v ∷ vs) all = absurd all
 paired_length R (u ∷ us) [] all = absurd all
 paired_length R (u ∷ us) (v ∷ vs) all = let h = paired_length R us vs all.1 in omega arith
 
-not_down : (xs : List ℕ) → IsStrictlyIncreasing xs → (i j : ℕ) → i ≤ j → j < length xs → get_or xs i 0 ≤ get_or xs j 0
+pub not_down : (xs : List ℕ) → IsStrictlyIncreasing xs → (i j : ℕ) → i ≤ j → j < length xs → get_or xs i 0 ≤ get_or xs j 0
 not_down xs rising i j before within = elim (cases_order i j) [
   | inl same ↦ (let e = ap (λ k. get_or xs k 0) same in omega arith)
   | inr other ↦ elim other [

@@ -26,7 +26,7 @@ use Rattle.reo_product.proofs.BridgeLemmas.{number_of, one_place}
 pub numbers_rise : (region_of : List (Option ℕ)) (region : ℕ) → IsStrictlyIncreasing (numbers_of region_of region)
 numbers_rise region_of region = IsStrictlyIncreasing-filter (is_at region_of region) (range_with_len 0 (length region_of)) (range_rises (length region_of))
 
-all_from_among : {A : Type 0} (P : A → Type 0) (xs : List A) → ((x : A) → Among x xs → P x) → All P xs
+pub all_from_among : {A : Type 0} (P : A → Type 0) (xs : List A) → ((x : A) → Among x xs → P x) → All P xs
 all_from_among P xs each = λ k d below. each (get_or xs k d) (among_at xs k d below)
 
 pub numbers_below : (region_of : List (Option ℕ)) (region : ℕ) → All (λ x. x < length region_of) (numbers_of region_of region)
@@ -34,19 +34,19 @@ numbers_below region_of region = all_from_among (λ x. x < length region_of) (nu
     (λ x at. let e = range_gives 0 (length region_of) x (filter_gives (is_at region_of region) (range_with_len 0 (length region_of)) x at).0 in omega (arith, e.1))
 
 module _ (c : RawCircuit) where
-  sync_to : (x y : Automaton) → SameRegion c x y → IsSynchronous c y
+  pub sync_to : (x y : Automaton) → SameRegion c x y → IsSynchronous c y
   sync_to x y (here s) = s
   sync_to x y (linked name path s at_z at_y) = s
 
-  follow : (x y z : Automaton) → SameRegion c x y → SameRegion c y z → SameRegion c x z
+  pub follow : (x y z : Automaton) → SameRegion c x y → SameRegion c y z → SameRegion c x z
   follow x y z before (here s) = before
   follow x y z before (linked {x = u} name path s at_u at_z) = linked name (follow x y u before path) s at_u at_z
 
-  turn : (x y : Automaton) → SameRegion c x y → SameRegion c y x
+  pub turn : (x y : Automaton) → SameRegion c x y → SameRegion c y x
   turn x y (here s) = here s
   turn x y (linked {x = z} name path s at_z at_y) = follow y z x (linked name (here s) (sync_to x z path) at_y at_z) (turn x z path)
 
-  of_number : (x : Automaton) → IsSynchronous c x → automaton_of c (automaton_number c x) ≡ x
+  pub of_number : (x : Automaton) → IsSynchronous c x → automaton_of c (automaton_number c x) ≡ x
   of_number (OfChannel k) s = ap (λ b. cond b (OfChannel k) (OfNode (k - length c.channels))) (lt-ltb k (length c.channels) (slice_get_within c.channels k s.0 s.1))
   of_number (OfNode node) s = go (nat_lt (length c.channels + node) (length c.channels)) refl
     where

@@ -24,7 +24,9 @@ use Rattle.reo_growth.proofs.ListLemmas.{same_tests, any_from, any_gives, among_
 use Rattle.reo_growth.proofs.VertexLemmas.{name_within}
 use Rattle.reo_growth.proofs.SplitLemmas.{splits}
 use Rattle.reo_product.specs.RegionWeb.{name_at, IsRegionWeb}
-use Rattle.reo_product.specs.Laws.{Matches, IsPart, StepsSplit, PartsShareNothing}
+use Rattle.reo_product.specs.Laws.{Matches, IsPart, StepsSplit, PartsShareNothing, RegionsShareNothing}
+use Rattle.reo_product.proofs.RegionLemmas.{sync_to, follow, turn}
+use Rattle.reo_product.proofs.ExistLemmas.{regions_have_webs}
 use Rattle.reo_product.proofs.BridgeLemmas.{one_place, at, of_place, of_name, to_region, one_number, link_of_fires}
 
 -- the ends of a channel that moves are those of a transition
@@ -189,8 +191,9 @@ module _ (c : RawCircuit) (texts : List (List ℕ)) (old : State) (step : Step) 
 
 pub steps_split : StepsSplit
 unfolding F
-steps_split c root names w web texts old step new product x moves =
-    (part c texts old step new product root names w web x moves, is_part c texts old step new product root names w web x moves)
+steps_split c circuit root texts old step new product x moves =
+    let web = regions_have_webs c circuit root (sync_to c x root (turn c root x moves.of_region)) in
+    (part c texts old step new product root web.0 web.1 web.2 x moves, is_part c texts old step new product root web.0 web.1 web.2 x moves)
 
 follows : (c : RawCircuit) (root x y : Automaton) (fires first second : ℕ → Bool) → IsPart c root fires x first → IsPart c root fires y second → (z : Automaton) → Moves c root second z → (u : Automaton) → HangsTogether c root first z u → Moves c root second u
 follows c root x y fires first second a b z moves u together_here = moves
@@ -210,3 +213,9 @@ pub share_nothing : PartsShareNothing
 share_nothing c root x y fires first second a b shared in_first in_second name =
     same_tests (first name) (second name) (within_other c root x y fires first second a b shared in_first in_second name)
     (within_other c root y x fires second first b a shared in_second in_first name)
+
+pub regions_share_nothing : RegionsShareNothing
+regions_share_nothing c root other x y fires first second a b shared in_first in_second =
+    let u = a.connected.within shared in_first in
+    let v = b.connected.within shared in_second in
+    follow c root v.0 other (region_linked shared u.1 (sync_to c other v.0 v.1) u.2 v.2) (turn c other v.0 v.1)

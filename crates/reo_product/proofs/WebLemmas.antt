@@ -1,12 +1,11 @@
 -- The web of a region, put together.
-use Rattle.std.proofs.Common.{◌≡◌, ℕ, zero, suc, ◌+◌, ◌-◌, cond, ◌<◌, ◌≤◌, ◌^◌, ◌⊎◌, inl, inr, ⊎_elim, List, [], ◌∷◌, ◌++◌, length, get_or, slice_get, All, Contains, Some, None, Bool, true, false, eqb, refl, sym, ◌∙◌, ap, subst, arith}
+use Rattle.std.proofs.Common.{◌≡◌, ℕ, zero, suc, ◌+◌, ◌-◌, cond, ◌<◌, ◌≤◌, ◌^◌, inl, inr, ⊎_elim, List, [], ◌∷◌, ◌++◌, length, get_or, slice_get, All, Contains, Some, None, Bool, true, false, eqb, refl, sym, ◌∙◌, ap, subst, arith}
 use Rattle.std.specs.Prelude.{flat_map, nat_lt}
 use Rattle.std.specs.List.{dedup}
-use Rattle.std.specs.Option.{option_map_or}
 use Rattle.std.specs.Ordering.{nat_cmp}
 use Rattle.std.specs.List.Sorted.{IsPermutation, IsSorted, IsStrictlyIncreasing}
 use Rattle.std.proofs.lemmas.Bool.{cases_lt, ltb-true}
-use Rattle.std.proofs.lemmas.Option.{slice_get-get_or, slice_get_within, get_or_from_slice_get, slice_get_past}
+use Rattle.std.proofs.lemmas.Option.{slice_get-get_or, slice_get_within, get_or_from_slice_get}
 use Rattle.std.proofs.lemmas.List.Kept.{Contains-dedup_nat, Contains-from_dedup, AllPairs-from_increasing}
 use Rattle.std.proofs.lemmas.List.Sorted.{Contains-permutation, IsPermutation-sym}
 use Rattle.std.proofs.lemmas.Map.Keys.{IsStrictlyIncreasing-dedup}
@@ -21,16 +20,16 @@ use Rattle.reo_automata.specs.Template.{automaton_of, IsTemplate}
 use Rattle.reo_growth.specs.declared.web.Automaton.{Automaton as WebAutomaton}
 use Rattle.reo_growth.specs.declared.web.Web.{Web}
 use Rattle.reo_growth.specs.Lists.{has, Among}
-use Rattle.reo_growth.specs.Web.{AreApart, IsWeb, names_of as web_names, links_of as web_links}
+use Rattle.reo_growth.specs.Web.{IsWeb}
 use Rattle.reo_growth.specs.Table.{AreFirings as AreWebFirings}
 use Rattle.reo_growth.specs.Marks.{AreBelow}
-use Rattle.reo_growth.proofs.VertexLemmas.{name_within, link_within}
 use Rattle.reo_growth.proofs.ListLemmas.{has_among, among_has, among_at, among_place, among_flat_map, flat_map_gives, append_gives, among_front, among_back}
 use Rattle.reo_product.specs.RegionWeb.{name_at, IsWebAutomaton, IsRegionWeb}
 use Rattle.reo_product.specs.Places.{AreKnown, ArePaired, IsPlacedTemplate, IsKnownTemplate, AreTemplates, AreNamesOf, IsCell, AreCells, FindsCell, AreRegionAutomata}
 use Rattle.reo_net.proofs.NameLemmas.{name_below}
 use Rattle.reo_product.proofs.BridgeLemmas.{one_place}
 use Rattle.reo_product.proofs.PlaceLemmas.{paired_length}
+use Rattle.reo_product.proofs.MadeLemmas.{made_web}
 use Rattle.reo_product.proofs.PlacedLemmas.{among_index, index_among, left_partner, placed_automaton}
 
 contains_among : (xs : List ℕ) (x : ℕ) → Contains xs x → Among x xs
@@ -139,7 +138,7 @@ cells_some c names rising i a cells cell channel found is before finds =
     only p q at = elim (append_gives (p, q) cells (cell ∷ []) at) [ inl old ↦ before.only p q old | inr last ↦ elim last [ inl e ↦ new p q e | inr never ↦ elim never [ ] ] ]
 
 -- a name of a numbered automaton is a name of the circuit
-has_name_below : (c : RawCircuit) (n name : ℕ) → HasName c (automaton_of c n) name → name < name_count c
+pub has_name_below : (c : RawCircuit) (n name : ℕ) → HasName c (automaton_of c n) name → name < name_count c
 has_name_below c n name its = go (nat_lt n (length c.channels)) refl its
   where
     go : (b : Bool) → nat_lt n (length c.channels) ≡ b → HasName c (cond b (OfChannel n) (OfNode (n - length c.channels))) name → name < name_count c
@@ -192,55 +191,16 @@ few_numbers c checked numbers rising below =
     omega arith
 
 -- it is a web
-module _ (c : RawCircuit) (numbers : List ℕ) (templates : List Template) (names : List ℕ) (automata : List WebAutomaton) (cells : List (ℕ × ℕ)) (size : ℕ)
-    (are : AreTemplates c numbers templates) (names_of : AreNamesOf templates names) (placed : ArePaired (IsPlacedTemplate names) templates automata) (are_cells : AreCells c names (length c.channels) cells) (sized : size ≡ length names) where
-  web : Web
-  web = record { automata = automata; cells = cells; names = size }
-
-  automaton_is : (i : ℕ) (a : WebAutomaton) → slice_get automata i ≡ Some a → (x : Automaton) × IsWebAutomaton c names x a
-  automaton_is i a at =
-      let t = left_partner (IsPlacedTemplate names) templates automata placed i a at in
-      let x = left_partner (λ x. IsTemplate c (automaton_of c x)) numbers templates are i t.0 t.1 in
-      (automaton_of c x.0, placed_automaton names names_of.rising c (automaton_of c x.0) t.0 x.2 a t.2)
-
-  nobody : WebAutomaton
-  nobody = record { names = []; links = [] }
-
-  at_place : (x : ℕ) → x < length automata → slice_get automata x ≡ Some (get_or automata x nobody)
-  at_place x below = slice_get-get_or automata x nobody below
-
-  names_there : (x : ℕ) → x < length automata → web_names web x ≡ (get_or automata x nobody).names
-  unfolding web web_names
-  names_there x below = ap (λ o. option_map_or (λ a. a.names) o []) (at_place x below)
-
-  links_there : (x : ℕ) → x < length automata → web_links web x ≡ (get_or automata x nobody).links
-  unfolding web web_links
-  links_there x below = ap (λ o. option_map_or (λ a. a.links) o []) (at_place x below)
-
-  apart_there : (x : ℕ) → (x < length automata) ⊎ (length automata ≤ x) → AreApart (web_links web x)
-  unfolding web web_links
-  apart_there x (inl below) = subst AreApart (sym (links_there x below)) (automaton_is x (get_or automata x nobody) (at_place x below)).1.apart
-  apart_there x (inr past) = subst (λ o. AreApart (option_map_or (λ a. a.links) o [])) (sym (slice_get_past automata x past)) tt
-
-  pub web_is_web : IsWeb (record { automata = automata; cells = cells; names = size })
-  unfolding web
-  web_is_web = record {
-    own = λ x link its place h.
-        let below = link_within web x link its in
-        let a = (automaton_is x (get_or automata x nobody) (at_place x below)).1 in
-        ap (λ ns. has ns place) (names_there x below) ∙ a.own link (subst (Among link) (links_there x below) its) place h;
-    some = λ x link its.
-        let below = link_within web x link its in
-        (automaton_is x (get_or automata x nobody) (at_place x below)).1.some link (subst (Among link) (links_there x below) its);
-    apart = λ x. apart_there x (cases_lt x (length automata));
-    below = λ x place h.
-        let within = name_within web x place h in
-        let b = (automaton_is x (get_or automata x nobody) (at_place x within)).1.below place (sym (ap (λ ns. has ns place) (names_there x within)) ∙ h) in
-        omega arith;
-    ends = λ k d h.
-        let e = are_cells.only (get_or cells k d).0 (get_or cells k d).1 (among_at cells k d h) in
-        let a = e.in_a in let b = e.in_b in (omega arith, omega arith);
-  }
+pub web_is_web : (c : RawCircuit) (numbers : List ℕ) (templates : List Template) (names : List ℕ) (automata : List WebAutomaton) (cells : List (ℕ × ℕ)) (size : ℕ)
+    → AreTemplates c numbers templates → AreNamesOf templates names → ArePaired (IsPlacedTemplate names) templates automata → AreCells c names (length c.channels) cells → size ≡ length names
+    → IsWeb (record { automata = automata; cells = cells; names = size })
+web_is_web c numbers templates names automata cells size are names_of placed are_cells sized =
+    made_web c names (record { automata = automata; cells = cells; names = size }) sized
+    (λ i a at.
+    let t = left_partner (IsPlacedTemplate names) templates automata placed i a at in
+    let x = left_partner (λ x. IsTemplate c (automaton_of c x)) numbers templates are i t.0 t.1 in
+    (automaton_of c x.0, placed_automaton names names_of.rising c (automaton_of c x.0) t.0 x.2 a t.2))
+    (λ a b at. let e = are_cells.only a b at in (e.in_a, e.in_b))
 
 -- the places in the rows of a table are places of the web
 pub rows_within : (w : Web) → IsWeb w → (rows : List (List ℕ)) → AreWebFirings w rows → All (AreBelow w.names) rows

@@ -3,14 +3,12 @@ use Rattle.std.specs.Prelude.{◌≡◌, ℕ, ◌<◌, ◌≤◌, ◌⊎◌, Lis
 use Rattle.std.specs.List.Sorted.{IsStrictlyIncreasing, IsStrictlySortedBy}
 use Rattle.reo_net.specs.declared.circuit.RawCircuit.{RawCircuit}
 use Rattle.reo_net.specs.Regions.{Automaton, IsConnectedFiring}
-use Rattle.reo_growth.specs.declared.web.Web.{Web}
 use Rattle.reo_growth.specs.Lists.{has, Among, AtMostOne}
-use Rattle.reo_growth.specs.Growth.{growth_count}
 use Rattle.reo_growth.specs.Table.{table_cmp}
 use Rattle.reo_product.specs.declared.table.Firing.{Firing}
 use Rattle.reo_product.specs.declared.table.ProductRefusal.{ProductRefusal}
 use Rattle.reo_product.specs.declared.table.ProductRefusal.TheVariants.{TooLarge, NoMemory}
-use Rattle.reo_product.specs.RegionWeb.{IsRegionWeb}
+use Rattle.reo_product.specs.Growth.{HasGrowth}
 
 -- these names, which rise, are a connected firing of the region
 pub record IsFiring (c : RawCircuit) (root : Automaton) (names : List ℕ) : Type 0 where
@@ -28,13 +26,6 @@ pub record HasFirings (c : RawCircuit) (root : Automaton) (count : ℕ) : Type 0
   pub firings : List (List ℕ)
   pub are_all : AreFirings c root firings
   pub are_so_many : length firings ≡ count
-
--- so many vertices grow in the region
-pub record HasGrowth (c : RawCircuit) (root : Automaton) (count : ℕ) : Type 0 where
-  pub names : List ℕ
-  pub web : Web
-  pub is_web : IsRegionWeb c root names web
-  pub counted : growth_count web ≡ count
 
 -- The connected firings of a region, each once, in table order, where neither they nor the vertices are too many.
 pub record IsTableOf (c : RawCircuit) (root : Automaton) (growth : ℕ) (firings : List (List ℕ)) : Type 0 where

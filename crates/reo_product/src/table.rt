@@ -14,6 +14,7 @@ use reo_growth::{TableRefusal, table_of};
 use reo_net::Net;
 use sqlite_items::Items;
 use std::alloc::{AllocError, Global};
+use thiserror::Error;
 
 /// Names that fire at once and hang together, rising.
 #[derive(Debug, Drop)]
@@ -31,11 +32,13 @@ pub struct RegionTable {
 }
 
 /// Why a region has no table.
-#[derive(Clone, Copy, Debug, PartialEq, Eq)]
+#[derive(Clone, Copy, Debug, PartialEq, Eq, Error)]
 pub enum ProductRefusal {
     /// In this region more vertices grow than 65,536, and then 65,537 is told; or it has more connected firings than 4,096,
     /// and then their number.
+    #[error("region {0} is too large: {1}")]
     TooLarge(u32, u32),
+    #[error("out of memory")]
     NoMemory,
 }
 

@@ -3,6 +3,7 @@ use Rattle.reo_growth.specs.Marks.{AreBelow}
 use Rattle.reo_product.specs.RegionWeb.{name_at}
 use Rattle.reo_product.specs.Table.{IsTableOf, Refuses}
 use Rattle.reo_product.proofs.WebLemmas.{rows_within}
+use Rattle.reo_product.proofs.CountLemmas.{webs_have_growth}
 use Rattle.reo_product.proofs.NamedLemmas.{table_named, refused_named}
 use Rattle.reo_product.proofs.table.table_of_automata.Goals as goal
 
@@ -18,11 +19,12 @@ returns-in-Ok-clause-table c = λ root region.
     let w = c.in_ok-made.made.web in
     let names = c.in_ok-made.made.names in
     let growth = c.in-Ok.table.growth in
-    let table = table_named c.args.net.now root names w (c.in_ok-made.ensures.web root region) growth c.in-Ok.table.firings c.in-Ok.ensures.table in
+    let table = table_named c.args.net.now root names w (c.in_ok-made.ensures.web root region) growth c.in-Ok.table.firings (webs_have_growth c.args.net.now root names w (c.in_ok-made.ensures.web root region)) c.in-Ok.ensures.table in
     let listed = c.in_ok-firings-in-Ok.ensures ∙ ap (λ ns. map (map (name_at ns)) c.as_slice-in-Ok.result.now) c.as_slice.ensures ∙ ap (map (map (name_at names))) c.as_slice-in-Ok.ensures in
     subst (IsTableOf c.args.net.now root growth) (sym listed) table
 
 pub returns-clause-refused : goal.returns-clause-refused
 returns-clause-refused c = λ root region.
     subst (Refuses c.args.net.now root c.args.region) (sym c.refusal.ensures)
-    (refused_named c.args.net.now root c.in_ok-made.made.names c.in_ok-made.made.web (c.in_ok-made.ensures.web root region) c.args.region c.in-Err.why c.in-Err.ensures.refused)
+    (refused_named c.args.net.now root c.in_ok-made.made.names c.in_ok-made.made.web (c.in_ok-made.ensures.web root region)
+    (webs_have_growth c.args.net.now root c.in_ok-made.made.names c.in_ok-made.made.web (c.in_ok-made.ensures.web root region)) c.args.region c.in-Err.why c.in-Err.ensures.refused)
