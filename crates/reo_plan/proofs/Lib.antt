@@ -1,0 +1,14 @@
+pub mod FabricLaw
+pub mod SlotLemmas
+pub mod PlaceSlotLemmas
+pub mod TableLemmas
+pub mod FactLemmas
+pub mod RowLaw
+pub mod EvaluateLemmas
+pub mod PlanLemmas
+pub mod TablesLaw
+pub mod SideLemmas
+pub mod DeciderLaw
+pub mod FitLaw
+pub mod FirstLaw
+pub mod BackLaw

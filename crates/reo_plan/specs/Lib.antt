@@ -1,0 +1,4 @@
+pub mod Fabric
+pub mod Plan
+pub mod Laws
+pub mod inside

@@ -1,0 +1,96 @@
+//! The rows of all firings.
+ghost use Rattle.std.specs.Prelude.{◌≡◌, ◌<◌, ◌≤◌, length, map, All, IfOk};
+ghost use Rattle.reo_net.specs.Names.{name_count};
+ghost use Rattle.reo_flow.specs.Places.{buffers};
+ghost use Rattle.reo_plan.specs.inside.Cells.{cell_numbers};
+ghost use Rattle.reo_product.specs.Table.{names_in};
+ghost use Rattle.reo_plan.specs.Plan.{firings_in};
+ghost use Rattle.reo_plan.specs.inside.Rows.{IsRow};
+ghost use Rattle.reo_plan.specs.inside.Plans.{AreRows, ArePlans, IsOfNames};
+
+use crate::facts::facts_of;
+use crate::givers::givers;
+use crate::places::{cell_slots, named_slots, port_slots, slot_table};
+use crate::row::Row;
+use reo_cut::CellCut;
+use reo_net::Net;
+use reo_product::{Firing, RegionTable};
+use sqlite_items::Items;
+use std::alloc::{AllocError, Global};
+
+/// The row of the firing with these names.
+pub(crate) fn row_of(
+    alloc: Global,
+    net: &Net,
+    numbers: &[u32],
+    cells: &[CellCut],
+    names: &[u32],
+) -> Result<Row, AllocError>
+    requires numbers { numbers.now ≡ cell_numbers net.now }
+    requires cells { map (λ cell. cell.channel) cells.now ≡ buffers net.now }
+    requires names { All (λ name. name < name_count net.now) names.now }
+    ensures { IfOk result (IsRow net.now names.now) }
+{
+    let givers = givers(alloc, net, numbers, names)?;
+    let mut slots = Items::new(alloc);
+    let slot_of = slot_table(alloc, net, &givers, names, &mut slots)?;
+    let table = slot_of.as_slice();
+    let facts = facts_of(alloc, net, numbers, table, names)?;
+    let takes = cell_slots(alloc, net, cells, table, true)?;
+    let fills = cell_slots(alloc, net, cells, table, false)?;
+    let puts = port_slots(alloc, net, table, true)?;
+    let gets = port_slots(alloc, net, table, false)?;
+    let named = named_slots(alloc, table, names)?;
+    Ok(Row {
+        slots,
+        facts,
+        takes,
+        fills,
+        puts,
+        gets,
+        named,
+    })
+}
+
+/// The rows of a region's firings.
+fn rows_of(
+    alloc: Global,
+    net: &Net,
+    numbers: &[u32],
+    cells: &[CellCut],
+    firings: &[Firing],
+) -> Result<Items<Row>, AllocError>
+    requires numbers { numbers.now ≡ cell_numbers net.now }
+    requires cells { map (λ cell. cell.channel) cells.now ≡ buffers net.now }
+    requires names { All (IsOfNames net.now) firings.now }
+    ensures { IfOk result (AreRows net.now (map names_in firings.now)) }
+{
+    let mut rows = Items::new(alloc);
+    for firing in firings {
+        let row = row_of(alloc, net, numbers, cells, firing.names.as_slice())?;
+        rows.push(row)?;
+    }
+    Ok(rows)
+}
+
+/// The rows of all regions.
+pub(crate) fn plans_of(
+    alloc: Global,
+    net: &Net,
+    numbers: &[u32],
+    cells: &[CellCut],
+    tables: &[RegionTable],
+) -> Result<Items<Items<Row>>, AllocError>
+    requires numbers { numbers.now ≡ cell_numbers net.now }
+    requires cells { map (λ cell. cell.channel) cells.now ≡ buffers net.now }
+    requires names { All (λ table. All (IsOfNames net.now) table.firings) tables.now }
+    requires small { All (λ table. length table.firings ≤ 4096) tables.now }
+    ensures { IfOk result (ArePlans net.now (map firings_in tables.now)) }
+{
+    let mut plans = Items::new(alloc);
+    for table in tables {
+        let rows = rows_of(alloc, net, numbers, cells, table.firings.as_slice())?;
+        plans.push(rows)?;
+    }
+    Ok(plans)
+}

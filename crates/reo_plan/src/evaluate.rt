@@ -1,0 +1,239 @@
+//! What a reading says of slots and facts.
+ghost use Rattle.std.specs.Prelude.{◌≡◌, map, if◌then◌else◌, not, false};
+ghost use Rattle.std.specs.Option.{option_and_then, option_map_or};
+ghost use Rattle.std.specs.List.{list_all};
+ghost use Rattle.reo_value.specs.Code.{IsValue};
+ghost use Rattle.reo_fabric.specs.Entry.{at_place};
+ghost use Rattle.reo_flow.specs.Tests.{is_met, yielded, decoded};
+ghost use Rattle.reo_flow.specs.Flow.{sources_of, offered_value, is_offered, is_empty, image_of_kind, image_at, met_by_kind, met_at, flow, is_so};
+ghost use Rattle.reo_plan.specs.inside.Slots.{slot_at, slot_value};
+
+use crate::row::Row;
+use crate::slots::giver_at;
+use reo_fabric::Reading;
+use reo_flow::{Fact, Giver};
+use reo_guard::{Fun, Guard, apply, holds};
+use reo_net::{Kind, Net};
+use reo_value::{Lexicon, Value, value_of, word_of};
+use sqlite_items::at;
+
+fn decoded(word: u64) -> Option<Value>
+    ensures { result ≡ decoded word }
+{
+    value_of(word)
+}
+
+fn cell_word(cells: &[(u32, u64)], cell: u32) -> Option<u64>
+    ensures { result ≡ at_place cells.now cell }
+{
+    for words in cells {
+        if words.0 == cell {
+            return Some(words.1);
+        }
+    }
+    None
+}
+
+fn port_words(ports: &[(u32, u64, u64)], port: u32) -> Option<(u64, u64)>
+    ensures { result ≡ at_place (map (λ p. (p.0, (p.1, p.2))) ports.now) port }
+{
+    for words in ports {
+        if words.0 == port {
+            return Some((words.1, words.2));
+        }
+    }
+    None
+}
+
+fn value_in_cell(reading: &Reading, cell: u32) -> Option<Value>
+    ensures { result ≡ (sources_of reading.now).cell cell }
+{
+    match cell_word(reading.cells.as_slice(), cell) {
+        Some(word) => decoded(word),
+        None => None,
+    }
+}
+
+fn offered_value(words: (u64, u64)) -> Option<Value>
+    ensures { result ≡ offered_value words }
+{
+    if words.0 == 1 { decoded(words.1) } else { None }
+}
+
+fn value_at_port(reading: &Reading, port: u32) -> Option<Value>
+    ensures { result ≡ (sources_of reading.now).port port }
+{
+    match port_words(reading.ports.as_slice(), port) {
+        Some(words) => offered_value(words),
+        None => None,
+    }
+}
+
+fn is_offered(reading: &Reading, port: u32) -> bool
+    ensures { result ≡ is_offered reading.now port }
+{
+    match port_words(reading.ports.as_slice(), port) {
+        Some(words) => words.0 == 1,
+        None => false,
+    }
+}
+
+fn is_empty(reading: &Reading, cell: u32) -> bool
+    ensures { result ≡ is_empty reading.now cell }
+{
+    match cell_word(reading.cells.as_slice(), cell) {
+        Some(word) => word == 0,
+        None => false,
+    }
+}
+
+fn is_met(guard: &Guard, datum: Value, texts: &Lexicon) -> bool
+    ensures { result ≡ is_met texts.now guard.now datum }
+{
+    holds(guard, datum, texts)
+}
+
+/// The value, whose code tells that it is one.
+fn known(value: &Value) -> Value
+    ensures same { result ≡ value.now }
+    ensures value { IsValue value.now }
+{
+    let _code = word_of(*value);
+    *value
+}
+
+fn yielded(fun: &Fun, datum: Value, texts: &Lexicon) -> Option<Value>
+    ensures { result ≡ yielded texts.now fun.now datum }
+{
+    match apply(fun, datum, texts) {
+        Some(value) => Some(known(&value)),
+        None => None,
+    }
+}
+
+fn met_by_kind(kind: &Kind, datum: Value, texts: &Lexicon) -> bool
+    ensures { result ≡ met_by_kind texts.now kind.now datum }
+{
+    match kind {
+        Kind::Sync => false,
+        Kind::Lossy => false,
+        Kind::Drain => false,
+        Kind::Fifo(_) => false,
+        Kind::Filter(guard) => is_met(guard, datum, texts),
+        Kind::Transform(_) => false,
+    }
+}
+
+fn met_at(net: &Net, texts: &Lexicon, number: u32, datum: Value) -> bool
+    ensures { result ≡ met_at net.now texts.now number datum }
+{
+    match at(net.channels(), number as usize) {
+        Some(channel) => met_by_kind(&channel.kind, datum, texts),
+        None => false,
+    }
+}
+
+fn image_of_kind(kind: &Kind, datum: Value, texts: &Lexicon) -> Option<Value>
+    ensures { result ≡ image_of_kind texts.now kind.now datum }
+{
+    match kind {
+        Kind::Sync => None,
+        Kind::Lossy => None,
+        Kind::Drain => None,
+        Kind::Fifo(_) => None,
+        Kind::Filter(_) => None,
+        Kind::Transform(fun) => yielded(fun, datum, texts),
+    }
+}
+
+fn image_at(net: &Net, texts: &Lexicon, number: u32, datum: Value) -> Option<Value>
+    ensures { result ≡ image_at net.now texts.now number datum }
+{
+    match at(net.channels(), number as usize) {
+        Some(channel) => image_of_kind(&channel.kind, datum, texts),
+        None => None,
+    }
+}
+
+fn image_of(net: &Net, texts: &Lexicon, number: u32, datum: Option<Value>) -> Option<Value>
+    ensures { result ≡ option_and_then (image_at net.now texts.now number) datum }
+{
+    match datum {
+        Some(value) => image_at(net, texts, number, value),
+        None => None,
+    }
+}
+
+/// What flows to a slot through so many givers.
+fn flow(
+    net: &Net,
+    texts: &Lexicon,
+    reading: &Reading,
+    slots: &[Giver],
+    fuel: u64,
+    slot: u32,
+) -> Option<Value>
+    ensures { result ≡ flow net.now texts.now (sources_of reading.now) (slot_at slots.now) fuel slot }
+{
+    if fuel == 0 {
+        return None;
+    }
+    match giver_at(slots, slot) {
+        Giver::Unfed => None,
+        Giver::Cell(cell) => value_in_cell(reading, cell),
+        Giver::Port(port) => value_at_port(reading, port),
+        Giver::Same(other) => flow(net, texts, reading, slots, fuel - 1, other),
+        Giver::Image(channel, other) => {
+            let datum = flow(net, texts, reading, slots, fuel - 1, other);
+            image_of(net, texts, channel, datum)
+        }
+    }
+}
+
+/// What is in a slot.
+pub(crate) fn slot_value(
+    net: &Net,
+    texts: &Lexicon,
+    reading: &Reading,
+    slots: &[Giver],
+    slot: u32,
+) -> Option<Value>
+    ensures { result ≡ slot_value net.now texts.now (sources_of reading.now) slots.now slot }
+{
+    flow(net, texts, reading, slots, u64::from(slot) + 1, slot)
+}
+
+fn is_met_in(net: &Net, texts: &Lexicon, number: u32, datum: Option<Value>, wanted: bool) -> bool
+    ensures { result ≡ option_map_or (λ value. if wanted then met_at net.now texts.now number value else not (met_at net.now texts.now number value)) datum false }
+{
+    match datum {
+        Some(value) => met_at(net, texts, number, value) == wanted,
+        None => false,
+    }
+}
+
+/// Whether a fact is so.
+fn is_so(net: &Net, texts: &Lexicon, reading: &Reading, slots: &[Giver], fact: &Fact) -> bool
+    ensures { result ≡ is_so net.now texts.now reading.now (slot_value net.now texts.now (sources_of reading.now) slots.now) fact.now }
+{
+    match fact {
+        Fact::Offered(port) => is_offered(reading, *port),
+        Fact::Empty(cell) => is_empty(reading, *cell),
+        Fact::Known(slot) => slot_value(net, texts, reading, slots, *slot).is_some(),
+        Fact::Met(channel, slot) => {
+            let datum = slot_value(net, texts, reading, slots, *slot);
+            is_met_in(net, texts, *channel, datum, true)
+        }
+        Fact::Failed(channel, slot) => {
+            let datum = slot_value(net, texts, reading, slots, *slot);
+            is_met_in(net, texts, *channel, datum, false)
+        }
+    }
+}
+
+/// Whether all that a row asks is so.
+pub(crate) fn row_fits(net: &Net, texts: &Lexicon, reading: &Reading, row: &Row) -> bool
+    ensures { result ≡ list_all (is_so net.now texts.now reading.now (slot_value net.now texts.now (sources_of reading.now) row.now.slots)) row.now.facts }
+{
+    row.facts.as_slice().iter().all(|fact| is_so(net, texts, reading, row.slots.as_slice(), fact))
+}

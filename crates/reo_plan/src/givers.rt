@@ -1,0 +1,175 @@
+//! Where the names of a firing have their data from.
+ghost use Rattle.std.specs.Prelude.{◌≡◌, ◌<◌, ◌≤◌, length, map, count_by, IfOk};
+ghost use Rattle.std.specs.List.{range_with_len, find};
+ghost use Rattle.reo_net.specs.Names.{name_count, end_a};
+ghost use Rattle.reo_net.specs.Kind.{is_fifo};
+ghost use Rattle.reo_net.specs.Steps.{cell_of};
+ghost use Rattle.reo_flow.specs.Flow.{comes_into, input_of, port_giver, b_giver, end_giver, giver_of};
+ghost use Rattle.reo_plan.specs.inside.Cells.{cell_numbers};
+
+use reo_flow::Giver;
+use reo_net::{Channel, Kind, Net, Port, stand_of};
+use reo_value::Way;
+use sqlite_items::at;
+use std::alloc::{AllocError, Global};
+
+// How many of these channels are FIFO1s.
+fn fifos_in(channels: &[Channel]) -> usize
+    ensures count { result ≡ count_by (λ channel. is_fifo channel.kind) channels.now }
+    ensures few { result ≤ length channels.now }
+{
+    channels
+        .iter()
+        .filter(|channel| channel.kind.is_fifo())
+        .count()
+}
+
+/// The number of the cell that a channel has, if it is a FIFO1.
+fn cell_of(net: &Net, number: usize) -> u32
+    requires { number < length net.now.channels }
+    ensures { result ≡ cell_of net.now number }
+{
+    fifos_in(&net.channels()[..number]) as u32
+}
+
+/// For each channel the number of its cell, if it is a FIFO1.
+pub(crate) fn cell_numbers(alloc: Global, net: &Net) -> Result<Vec<u32>, AllocError>
+    ensures { IfOk result (λ cells. cells.items ≡ cell_numbers net.now) }
+{
+    let count = net.channels().len();
+    let mut cells = Vec::with_capacity(alloc, count)?;
+    for number in 0..count {
+        cells.push(cell_of(net, number))?;
+    }
+    Ok(cells)
+}
+
+fn comes_into(net: &Net, node: u32, name: u32) -> bool
+    ensures { result ≡ comes_into net.now node name }
+{
+    match stand_of(net, name) {
+        Some(stand) => stand.incoming && stand.node == node,
+        None => false,
+    }
+}
+
+fn first_input(net: &Net, names: &[u32], node: u32) -> Option<u32>
+    ensures { result ≡ find (comes_into net.now node) names.now }
+{
+    names
+        .iter()
+        .copied()
+        .find(|name| comes_into(net, node, *name))
+}
+
+/// The datum of the first of the names that comes into the node.
+fn input_of(net: &Net, names: &[u32], node: u32) -> Giver
+    ensures { result ≡ input_of net.now names.now node }
+{
+    match first_input(net, names, node) {
+        Some(name) => Giver::Same(name),
+        None => Giver::Unfed,
+    }
+}
+
+fn port_giver(net: &Net, names: &[u32], number: u32, port: &Port) -> Giver
+    ensures { result ≡ port_giver net.now names.now number port.now }
+{
+    match port.way {
+        Way::Put => Giver::Port(number),
+        Way::Get => input_of(net, names, port.node),
+    }
+}
+
+/// The name of end a of a channel.
+fn end_a(net: &Net, number: u32) -> u32
+    requires { number < length net.now.channels }
+    ensures { result ≡ end_a net.now number }
+{
+    net.ports().len() as u32 + 2 * number
+}
+
+/// The number of the cell that a channel has, if it is a FIFO1, by the list of these.
+pub(crate) fn cell_number(net: &Net, cells: &[u32], number: u32) -> u32
+    requires found { number < length net.now.channels }
+    requires cells { cells.now ≡ cell_numbers net.now }
+    ensures { result ≡ cell_of net.now number }
+{
+    let _ = net;
+    cells[number as usize]
+}
+
+fn b_giver(net: &Net, cells: &[u32], names: &[u32], number: u32, channel: &Channel) -> Giver
+    requires found { number < length net.now.channels }
+    requires cells { cells.now ≡ cell_numbers net.now }
+    ensures { result ≡ b_giver net.now names.now number channel.now.b channel.now.kind }
+{
+    match channel.kind {
+        Kind::Sync => Giver::Same(end_a(net, number)),
+        Kind::Lossy => Giver::Same(end_a(net, number)),
+        Kind::Drain => input_of(net, names, channel.b),
+        Kind::Fifo(_) => Giver::Cell(cell_number(net, cells, number)),
+        Kind::Filter(_) => Giver::Same(end_a(net, number)),
+        Kind::Transform(_) => Giver::Image(number, end_a(net, number)),
+    }
+}
+
+fn end_giver(
+    net: &Net,
+    cells: &[u32],
+    names: &[u32],
+    number: u32,
+    is_a: bool,
+    channel: &Channel,
+) -> Giver
+    requires found { number < length net.now.channels }
+    requires cells { cells.now ≡ cell_numbers net.now }
+    ensures { result ≡ end_giver net.now names.now number is_a channel.now }
+{
+    if is_a {
+        input_of(net, names, channel.a)
+    } else {
+        b_giver(net, cells, names, number, channel)
+    }
+}
+
+/// Where a name has its datum from.
+fn giver_of(net: &Net, cells: &[u32], names: &[u32], name: u32) -> Giver
+    requires { cells.now ≡ cell_numbers net.now }
+    ensures { result ≡ giver_of net.now names.now name }
+{
+    let ports = net.ports().len();
+    let name = name as usize;
+    if name < ports {
+        match at(net.ports(), name) {
+            Some(port) => port_giver(net, names, name as u32, port),
+            None => Giver::Unfed,
+        }
+    } else {
+        let number = (name - ports) / 2;
+        match at(net.channels(), number) {
+            Some(channel) => {
+                let is_a = (name - ports) % 2 == 0;
+                end_giver(net, cells, names, number as u32, is_a, channel)
+            }
+            None => Giver::Unfed,
+        }
+    }
+}
+
+/// The giver of each name of the circuit, in a firing with these names.
+pub(crate) fn givers(
+    alloc: Global,
+    net: &Net,
+    cells: &[u32],
+    names: &[u32],
+) -> Result<Vec<Giver>, AllocError>
+    requires { cells.now ≡ cell_numbers net.now }
+    ensures { IfOk result (λ givers. givers.items ≡ map (giver_of net.now names.now) (range_with_len 0 (name_count net.now))) }
+{
+    let mut givers = Vec::new(alloc);
+    for name in 0..net.names() {
+        givers.push(giver_of(net, cells, names, name))?;
+    }
+    Ok(givers)
+}

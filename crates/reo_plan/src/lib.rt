@@ -1,0 +1,18 @@
+//! Data plans: what a region's firings read and do, made once, and the choice of the first that a reading allows.
+#![tactic(auto)]
+
+mod back;
+mod compiler;
+mod evaluate;
+mod facts;
+mod givers;
+pub mod laws;
+mod places;
+mod plans;
+mod row;
+mod slots;
+mod wiring;
+mod write;
+
+pub use plans::{Plan, compile};
+pub use wiring::fabric;
