@@ -1,0 +1,12 @@
+pub mod ListLemmas
+pub mod RegionLemmas
+pub mod PartLaw
+pub mod ValueLemmas
+pub mod PlaceLemmas
+pub mod QuietLaw
+pub mod BoardLemmas
+pub mod PlainLaw
+pub mod CallLemmas
+pub mod OfferLemmas
+pub mod TurnLaw
+pub mod RunLaw

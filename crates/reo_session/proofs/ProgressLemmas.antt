@@ -1,0 +1,44 @@
+-- What holds of each element so far; and when all operations are answered.
+use Rattle.std.proofs.Common.{◌≡◌, ℕ, ◌+◌, ◌<◌, ◌≤◌, ⊎_elim, List, [], ◌∷◌, length, map, get_or, All, true, false, eqb, refl, sym, ap, ◌∙◌, subst, arith}
+use Rattle.std.proofs.lemmas.Bool.{and_parts, and_from, eqb-true, eq-eqb, false≢true, cases_lt}
+use Rattle.std.proofs.lemmas.List.{get_or_default}
+use Rattle.reo_value.specs.declared.op.Op.{Op}
+use Rattle.reo_trace.specs.declared.report.Called.{Called}
+use Rattle.reo_trace.specs.Lawful.{AllAnswered}
+use Rattle.reo_session.specs.Running.{same_lengths}
+
+module _ {A : Type 0} (P : A → Type 0) (xs : List A) where
+  -- the first elements, so many
+  abbrev pub AreFirst : ℕ → Type 0
+  AreFirst i = (k : ℕ) (d : A) → k < i → k < length xs → P (get_or xs k d)
+
+  pub first_more : (i : ℕ) (x : A) → AreFirst i → x ≡ get_or xs i x → P x → AreFirst (i + 1)
+  first_more i x before is has k d below inside =
+      ⊎_elim
+      (λ less. before k d less inside)
+      (λ not_less.
+      let same : i ≡ k = omega (arith, below, not_less) in
+      subst P (is ∙ ap (λ j. get_or xs j x) same ∙ get_or_default xs k x d inside) has)
+      (cases_lt k i)
+
+  pub first_all : (i : ℕ) → AreFirst i → length xs ≤ i → All P xs
+  first_all i before all k d below = before k d (omega (arith, below, all)) below
+
+-- as many calls as operations
+pub all_answered : (scripts : List (List Op)) (calls : List (List Called)) → length calls ≡ length scripts → same_lengths scripts calls ≡ true → AllAnswered scripts calls
+all_answered [] [] count same = refl
+all_answered [] (o ∷ calls) count same = absurd (omega (arith, count))
+all_answered (s ∷ scripts) [] count same = absurd (omega (arith, count))
+all_answered (s ∷ scripts) (o ∷ calls) count same =
+    let parts = and_parts (eqb (length s) (length o)) (same_lengths scripts calls) same in
+    let rest = all_answered scripts calls (omega (arith, count)) parts.1 in
+    ap (λ n. n ∷ map length calls) (sym (eqb-true (length s) (length o) parts.0)) ∙ ap (λ ns. length s ∷ ns) rest
+
+same_when_answered : (scripts : List (List Op)) (calls : List (List Called)) → AllAnswered scripts calls → same_lengths scripts calls ≡ true
+same_when_answered [] calls all = refl
+same_when_answered (s ∷ scripts) [] all = refl
+same_when_answered (s ∷ scripts) (o ∷ calls) all =
+    and_from (eqb (length s) (length o)) (same_lengths scripts calls) (eq-eqb (length s) (length o) (let e : length s ≡ length o = cc in e)) (same_when_answered scripts calls (let e : map length calls ≡ map length scripts = cc in e))
+
+pub not_all : (scripts : List (List Op)) (calls : List (List Called)) → same_lengths scripts calls ≡ false → AllAnswered scripts calls → ⊥
+not_all scripts calls differ all = false≢true (sym differ ∙ same_when_answered scripts calls all)

@@ -1,0 +1,36 @@
+use Rattle.std.proofs.Common.{◌≡◌, [], List, length, map, sym, ap, ◌∙◌, subst}
+use Rattle.std.specs.Borrow.{Bor}
+use Rattle.std.proofs.lemmas.List.{length-map}
+use Rattle.reo_net.specs.declared.circuit.Step.{Step}
+use Rattle.reo_fabric.specs.declared.port_state.PortState.TheVariants.{Idle}
+use Rattle.reo_fabric.specs.Engine.{EngineState, port_at}
+use Rattle.reo_trace.specs.declared.report.Called.{Called}
+use Rattle.reo_session.specs.Posted.{ScriptsFitFabric}
+use Rattle.reo_session.specs.Running.{IsRunning, IsPosting}
+use Rattle.reo_session.specs.Session.{firings_of}
+use Rattle.reo_session.proofs.SessionLaw.{all_idle, starts}
+use Rattle.reo_session.proofs.TurnLemmas.{scripts_fit_fabric}
+use Rattle.reo_session.proofs.schedule.run.Goals as goal
+
+pub post_first-requires-clause-fit : goal.post_first-requires-clause-fit
+post_first-requires-clause-fit g c =
+    let b = c.args.board in
+    subst (λ (x : EngineState (Bor g.row.P.Denot)). ScriptsFitFabric x.fabric b.scripts.now) (sym c.in_ok-engine.ensures)
+    (scripts_fit_fabric b.net.now c.args.fabric (firings_of b.tables.now) c.requires.set.board b.scripts.now c.requires.set.fit)
+
+pub post_first-requires-clause-idle : goal.post_first-requires-clause-idle
+post_first-requires-clause-idle g c port =
+    subst (λ (x : EngineState (Bor g.row.P.Denot)). port_at x.ports port ≡ Idle) (sym c.in_ok-engine.ensures) (all_idle c.args.fabric.ports port)
+
+pub run_on-requires-clause-running : goal.run_on-requires-clause-running
+run_on-requires-clause-running g c =
+    let b = c.args.board in
+    let ports = c.post_first.new.engine.ports in
+    let begun = c.in_ok-engine.ensures in
+    let long : length c.in_ok-engine.engine.ports ≡ length c.args.fabric.ports = ap (λ (x : EngineState (Bor g.row.P.Denot)). length x.ports) begun ∙ length-map c.args.fabric.ports (λ port. Idle) in
+    let posting = subst (λ n. IsPosting b.scripts.now (length b.scripts.now) n ports) long c.post_first.ensures.posted in
+    let same = c.post_first.ensures.engine ∙ ap (λ (x : EngineState (Bor g.row.P.Denot)). record x { ports = ports }) begun in
+    let at_first = starts b.net.now b.texts.now b.scripts.now c.args.fabric (firings_of b.tables.now) b.limit _ _ _ _ c.requires.set c.args.plan ports posting in
+    subst (λ (ss : List Step). IsRunning b.net.now b.texts.now b.scripts.now c.post_first.new.engine.fabric (firings_of b.tables.now) b.limit c.post_first.new.engine.decider c.post_first.new.engine ss c.in_ok-no_calls.field-0.items 0) (sym c.new.ensures.items)
+    (subst (λ (cs : List (List Called)). IsRunning b.net.now b.texts.now b.scripts.now c.post_first.new.engine.fabric (firings_of b.tables.now) b.limit c.post_first.new.engine.decider c.post_first.new.engine [] cs 0) (sym c.in_ok-no_calls.ensures)
+    (subst (λ (x : EngineState (Bor g.row.P.Denot)). IsRunning b.net.now b.texts.now b.scripts.now x.fabric (firings_of b.tables.now) b.limit x.decider x [] (map (λ script. []) b.scripts.now) 0) (sym same) at_first))

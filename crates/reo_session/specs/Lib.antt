@@ -1,0 +1,6 @@
+pub mod Prepared
+pub mod Posted
+pub mod Turn
+pub mod Plan
+pub mod Running
+pub mod Session

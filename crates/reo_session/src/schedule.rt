@@ -1,0 +1,133 @@
+//! The plain schedule: one thread, the regions in turn.
+ghost use Rattle.std.specs.Prelude.{◌≡◌, ℕ, ◌+◌, ◌<◌, ◌≤◌, ◌^◌, List, [], length, map, Some, IfSome, IfNone, IfOk, OnOk};
+ghost use Rattle.reo_fabric.specs.declared.fabric.Fabric.{Fabric as AnyFabric};
+ghost use Rattle.reo_fabric.specs.Decider.{Fits};
+ghost use Rattle.reo_fabric.specs.Fabric.{IsLawfulFabric};
+ghost use Rattle.reo_fabric.specs.Engine.{started};
+ghost use Rattle.reo_flow.specs.Allows.{Table as AnyTable};
+ghost use Rattle.reo_trace.specs.Lawful.{AllAnswered};
+ghost use Rattle.reo_schedule.specs.Plain.{IsPlainReport};
+ghost use Rattle.reo_session.specs.Turn.{AreQuiet};
+ghost use Rattle.reo_session.specs.Running.{IsRunning, same_lengths};
+ghost use Rattle.reo_session.specs.Session.{IsSet, firings_of};
+
+use crate::collect::{collect, post_first};
+use crate::progress::{Progress, all_answered, no_calls};
+use crate::steps::Stepper;
+use crate::turn::{fire_next, keep_step};
+use reo_fabric::{Fabric, PlainEngine};
+use reo_net::Net;
+use reo_product::RegionTable;
+use reo_trace::{Ending, Report};
+use reo_value::{Lexicon, Op};
+use sqlite_items::Items;
+use std::alloc::{AllocError, Global};
+
+/// What a run goes by.
+#[derive(Clone, Copy)]
+pub(crate) struct Board<'a> {
+    pub net: &'a Net,
+    pub texts: &'a Lexicon,
+    pub scripts: &'a [Items<Op>],
+    pub tables: &'a [RegionTable],
+    pub limit: u64,
+}
+
+/// A turn: the first region that can fire, in cyclic order from a place on, fires, and its answers are collected. The answer is
+/// the place behind it, or `None` where none can.
+fn turn<P: Stepper>(
+    engine: &mut PlainEngine<&P>,
+    progress: &mut Progress,
+    alloc: Global,
+    board: Board<'_>,
+    plan: &P,
+    regions: u32,
+    place: u32,
+) -> Result<Option<u32>, AllocError>
+    requires set { IsSet board.net.now board.texts.now board.scripts.now engine.old.fabric (firings_of board.tables.now) (P.allows plan.now) (P.first_choice plan.now) (P.may_step plan.now) (P.has_step plan.now) }
+    requires regions { regions ≡ engine.old.fabric.regions }
+    requires chooser { engine.old.decider.now ≡ plan.now }
+    requires few { engine.old.count < 2 ^ 63 }
+    requires left { AllAnswered board.scripts.now progress.old.calls.items → ⊥ }
+    requires below { length progress.old.steps.items < board.limit }
+    requires running { IsRunning board.net.now board.texts.now board.scripts.now engine.old.fabric (firings_of board.tables.now) board.limit engine.old.decider engine.old progress.old.steps.items progress.old.calls.items place }
+    ensures running { IfOk result (λ next. IfSome next (IsRunning board.entry.net.now board.entry.texts.now board.entry.scripts.now engine.old.fabric (firings_of board.entry.tables.now) board.entry.limit engine.old.decider engine.new progress.new.steps.items progress.new.calls.items)) }
+    ensures one_step { IfOk result (λ next. IfSome next (λ _. length progress.new.steps.items ≡ length progress.old.steps.items + 1)) }
+    ensures quiet { IfOk result (λ next. IfNone next (AreQuiet (P.first_choice plan.now) engine.new 0 regions)) }
+    ensures same_engine { IfOk result (λ next. IfNone next (engine.new ≡ engine.old)) }
+    ensures same_steps { IfOk result (λ next. IfNone next (progress.new.steps.items ≡ progress.old.steps.items)) }
+    ensures same_calls { IfOk result (λ next. IfNone next (progress.new.calls.items ≡ progress.old.calls.items)) }
+{
+    let Some(region) = fire_next(engine, regions, place) else {
+        return Ok(None);
+    };
+    keep_step(alloc, engine, plan, &mut progress.steps)?;
+    collect(engine, &mut progress.calls, board.scripts)?;
+    Ok(Some(region + 1))
+}
+
+/// Goes on until every operation is answered, no region can fire, or the steps are as many as the limit.
+fn run_on<P: Stepper>(
+    engine: &mut PlainEngine<&P>,
+    progress: &mut Progress,
+    alloc: Global,
+    board: Board<'_>,
+    plan: &P,
+    regions: u32,
+) -> Result<Ending, AllocError>
+    requires set { IsSet board.net.now board.texts.now board.scripts.now engine.old.fabric (firings_of board.tables.now) (P.allows plan.now) (P.first_choice plan.now) (P.may_step plan.now) (P.has_step plan.now) }
+    requires regions { regions ≡ engine.old.fabric.regions }
+    requires chooser { engine.old.decider.now ≡ plan.now }
+    requires some { 1 ≤ board.limit }
+    requires few { board.limit ≤ 2 ^ 63 }
+    requires first { length progress.old.steps.items ≡ 0 }
+    requires running { IsRunning board.net.now board.texts.now board.scripts.now engine.old.fabric (firings_of board.tables.now) board.limit engine.old.decider engine.old progress.old.steps.items progress.old.calls.items 0 }
+    ensures plain { IfOk result (λ ending. IsPlainReport board.entry.net.now board.entry.texts.now board.entry.scripts.now board.entry.limit (record { steps = progress.new.steps.items; calls = progress.new.calls.items; ending = ending })) }
+{
+    let mut place = 0;
+    for _turn in 0..board.limit {
+        if all_answered(board.scripts, &progress.calls) {
+            return Ok(Ending::Done);
+        }
+        match turn(engine, progress, alloc, board, plan, regions, place)? {
+            Some(next) => place = next,
+            None => return Ok(Ending::Stuck),
+        }
+    }
+    if all_answered(board.scripts, &progress.calls) {
+        Ok(Ending::Done)
+    } else {
+        Ok(Ending::Limit)
+    }
+}
+
+/// Runs the components' scripts on a fabric, on one thread, as the plan chooses. The regions fire in turn: each turn goes to the
+/// first that can fire, in cyclic order from the one behind the last that fired.
+pub(crate) fn run<P: Stepper>(
+    alloc: Global,
+    board: Board<'_>,
+    fabric: Fabric,
+    plan: &P,
+) -> Result<Report, AllocError>
+    requires set { IsSet board.net.now board.texts.now board.scripts.now fabric (firings_of board.tables.now) (P.allows plan.now) (P.first_choice plan.now) (P.may_step plan.now) (P.has_step plan.now) }
+    requires lawful { IsLawfulFabric fabric }
+    requires fits { Fits fabric (P.allows plan.now) }
+    requires some { 1 ≤ board.limit }
+    requires few { board.limit ≤ 2 ^ 63 }
+    ensures plain { IfOk result (IsPlainReport board.entry.net.now board.entry.texts.now board.entry.scripts.now board.entry.limit) }
+{
+    let regions = fabric.regions;
+    let mut engine = PlainEngine::start(alloc, fabric, plan)?;
+    post_first(&mut engine, board.scripts);
+    let mut progress = Progress {
+        steps: Vec::new(alloc),
+        calls: no_calls(alloc, board.scripts)?,
+    };
+    let ending = run_on(&mut engine, &mut progress, alloc, board, plan, regions)?;
+    let Progress { steps, calls } = progress;
+    Ok(Report {
+        steps: Items::from_vec(steps),
+        calls: Items::from_vec(calls),
+        ending,
+    })
+}
