@@ -1,0 +1,10 @@
+pub mod OneCell
+pub mod Lists
+pub mod Frames
+pub mod Quiet
+pub mod Commit
+pub mod Store
+pub mod Seating
+pub mod Opening
+pub mod Numbers
+pub mod Sources

@@ -1,0 +1,72 @@
+//! The step law, each law a function that does nothing.
+ghost use Rattle.reo_coupling.specs.Parts.{StandsFor};
+ghost use Rattle.reo_coupling.specs.Steps.{Begins, ReadsClock, SeesCell, Commits, SetsCell, KeepsPart, KeepsEachPart};
+ghost use Rattle.reo_coupling.specs.Seats.{KeepsTheRule, SplittingKeepsTheRule, JoiningKeepsTheRule};
+ghost use Rattle.reo_coupling.specs.Opening.{OpensCoupled};
+ghost use Rattle.reo_coupling.specs.Sources.{TakesHaveSources};
+ghost use Rattle.reo_coupling.specs.Laws.{NumbersStandOnce, OnlyCommitsChangeTheState};
+
+/// Where a region begins a round, each part is kept.
+pub fn begin_keeps()
+    ensures parts { KeepsEachPart Begins }
+    ensures whole { KeepsPart Begins StandsFor }
+    ensures seats { KeepsTheRule Begins }
+{}
+
+/// Where a region reads the commit word, each part is kept.
+pub fn clock_keeps()
+    ensures parts { KeepsEachPart ReadsClock }
+    ensures whole { KeepsPart ReadsClock StandsFor }
+    ensures seats { KeepsTheRule ReadsClock }
+{}
+
+/// Where a region reads a cell, each part is kept.
+pub fn see_cell_keeps()
+    ensures parts { KeepsEachPart SeesCell }
+    ensures whole { KeepsPart SeesCell StandsFor }
+    ensures seats { KeepsTheRule SeesCell }
+{}
+
+/// Where a region commits, each part is kept.
+pub fn commit_keeps()
+    ensures parts { KeepsEachPart Commits }
+    ensures whole { KeepsPart Commits StandsFor }
+    ensures seats { KeepsTheRule Commits }
+{}
+
+/// Where a region stores what is due in a cell, each part is kept.
+pub fn set_cell_keeps()
+    ensures parts { KeepsEachPart SetsCell }
+    ensures whole { KeepsPart SetsCell StandsFor }
+    ensures seats { KeepsTheRule SetsCell }
+{}
+
+/// Where the root gives away the seat of a region, the rule is kept.
+pub fn splitting_keeps()
+    ensures { SplittingKeepsTheRule }
+{}
+
+/// Where a seat comes home to the root, the rule is kept.
+pub fn joining_keeps()
+    ensures { JoiningKeepsTheRule }
+{}
+
+/// The rule holds of the first words.
+pub fn first_words_are_coupled()
+    ensures { OpensCoupled }
+{}
+
+/// Each number is in one region's list, with its entry.
+pub fn numbers_stand_once()
+    ensures { NumbersStandOnce }
+{}
+
+/// Only a commit changes the history and the state.
+pub fn only_commits_change_the_state()
+    ensures { OnlyCommitsChangeTheState }
+{}
+
+/// What an entry takes was there at the start, or an earlier entry put it there, and no other took it between.
+pub fn takes_have_sources()
+    ensures { TakesHaveSources }
+{}

@@ -1,0 +1,5 @@
+pub mod Shared
+pub mod History
+pub mod Plays
+pub mod Words
+pub mod Seat

@@ -1,0 +1,61 @@
+//! The root, which gives away the seats.
+ghost use Rattle.std.specs.Prelude.{◌≡◌, ◌<◌, ℕ};
+ghost use Rattle.reo_coupling.specs.declared.view.Mark.TheVariants.{Fresh};
+ghost use Rattle.reo_coupling.specs.Seats.{mark_at, after_split, fresh_region};
+
+use crate::region_seat::RegionSeat;
+use crate::rule::{Give, Place};
+use crate::words::Words;
+use atomic_table::Seat;
+use reo_coupling::View;
+use std::marker::{Brand, Model};
+
+/// The owner of all seats that are not given away.
+#[derive(Drop)]
+pub struct Root {
+    pub(crate) seat: Seat<(), View>,
+    pub(crate) limit: u64,
+}
+
+impl Model for Root {
+    ghost use Rattle.std.specs.Prelude.{◌≡◌, []};
+    ghost use Rattle.reo_coupling.specs.declared.view.View.TheVariants.{Root as AnyRoot};
+    ghost use Rattle.reo_table.specs.Shared.{RootState};
+    ghost use Rattle.reo_table.specs.Plays.{root_of};
+
+    ghost Value = { RootState };
+
+    ghost view = { λ r. record { id = r.seat.table_id; view = root_of r.seat.me.0 } };
+
+    ghost invariant = { λ r. (r.seat.me.0 ≡ AnyRoot (root_of r.seat.me.0)) × (r.limit ≡ (root_of r.seat.me.0).limit) };
+}
+
+impl Root {
+    /// The seat of a region, which knows nothing yet. Each region has one seat.
+    pub fn region_seat(&mut self, words: &Words, region: u32) -> RegionSeat
+        requires own { self.old.id ≡ words.now.id }
+        requires region { region < words.now.setting.fabric.regions }
+        requires fresh { mark_at self.old.view region ≡ Fresh }
+        ensures root { self.new ≡ record self.old { view = after_split self.old.view region } }
+        ensures seat { result ≡ record { id = self.old.id; view = fresh_region self.old.view.limit region } }
+    {
+        self.seat_of::<Brand>(words, region)
+    }
+
+    fn seat_of<P: Place>(&mut self, words: &Words, region: u32) -> RegionSeat
+        requires place { P.place ≡ region }
+        requires own { self.old.id ≡ words.now.id }
+        requires region { region < words.now.setting.fabric.regions }
+        requires fresh { mark_at self.old.view region ≡ Fresh }
+        ensures root { self.new ≡ record self.old { view = after_split self.old.view region } }
+        ensures seat { result ≡ record { id = self.old.id; view = fresh_region self.old.view.limit region } }
+    {
+        let seat = words.table.shared.split_seat::<Give<P>>(&mut self.seat);
+        RegionSeat {
+            seat,
+            region,
+            round: 0,
+            limit: self.limit,
+        }
+    }
+}
