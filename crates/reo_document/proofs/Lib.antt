@@ -1,5 +1,9 @@
+pub mod ListLemmas
+pub mod TextLemmas
+pub mod DocumentLemmas
 pub mod LeadLemmas
 pub mod SpellLemmas
 pub mod LineLemmas
+pub mod OwnerLemmas
 pub mod BuilderLemmas
 pub mod ReadLemmas

@@ -1,10 +1,12 @@
 -- A document, as callers see it.
-use Rattle.std.specs.Prelude.{ℕ, List, length, Option, Some, None}
+use Rattle.std.specs.Prelude.{◌≡◌, ◌≤◌, ℕ, List, length, Option, Some, None, sum_by}
 use Rattle.std.specs.List.{filter_map}
 use Rattle.reo_value.specs.declared.op.Op.{Op}
 use Rattle.reo_net.specs.declared.circuit.Channel.{Channel}
 use Rattle.reo_net.specs.declared.circuit.Port.{Port}
 use Rattle.reo_net.specs.declared.circuit.RawCircuit.{RawCircuit}
+use Rattle.reo_net.specs.Checks.{HasKnownNumbers}
+use Rattle.reo_net.specs.Scripts.{ScriptsFit}
 use Rattle.reo_document.specs.declared.line.Line.{Line}
 use Rattle.reo_document.specs.declared.line.Line.TheVariants as line
 
@@ -32,3 +34,11 @@ circuit_of document = record {
   channels = filter_map channel_in document.lines;
   ports = filter_map port_in document.lines;
 }
+
+-- What is true of every document.
+pub record IsDocument (d : DocumentData) : Type 0 where
+  pub known : HasKnownNumbers (circuit_of d)
+  pub fit : ScriptsFit (circuit_of d) d.scripts
+  pub scripted : length d.people ≡ length d.scripts
+  pub few_people : length d.people ≤ 128
+  pub few_operations : sum_by (λ script. length script) d.scripts ≤ 100000

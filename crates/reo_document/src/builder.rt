@@ -1,13 +1,11 @@
 //! A document as it is read, line by line.
-ghost use Rattle.std.specs.Prelude.{◌≡◌, ◌<◌, ◌^◌, ◌==◌, ◌-◌, nat_le, ◌+◌, ◌≤◌, length, take, IfOk, OnOk};
-ghost use Rattle.std.specs.List.{list_any};
-ghost use Rattle.reo_value.specs.Op.{port_of};
+ghost use Rattle.std.specs.Prelude.{◌≡◌, ◌<◌, ◌^◌, nat_le, ◌+◌, ◌≤◌, length, IfOk, OnOk};
 ghost use Rattle.reo_value.specs.Lexicon.{added};
 ghost use Rattle.reo_sentence.specs.Numbered.{number_in};
 ghost use Rattle.reo_sentence.specs.Said.{name_at, said, PortSaid, ChannelSaid, ComponentSaid};
 ghost use Rattle.reo_document.specs.Placed.{port_from, port_named, is_taken, operation_count, misplaced_at, misplaced, port_number, with_operation, with_said};
 ghost use Rattle.reo_document.specs.Spells.{empty};
-ghost use Rattle.reo_document.specs.Builder.{data_of, operation_at};
+ghost use Rattle.reo_document.specs.Builder.{data_of, operation_at, owner_at, is_before, Claims, KnowsOwners};
 
 use crate::line::Line;
 use crate::refusal::Misplaced;
@@ -29,11 +27,14 @@ pub(crate) struct Builder {
     pub(crate) texts: Lexicon,
     pub(crate) people: Lexicon,
     pub(crate) scripts: Vec<Items<Op>>,
+    // The first component that uses each port, where one does.
+    pub(crate) owners: Vec<Option<usize>>,
 }
 
 impl Builder {
     pub(crate) fn new(alloc: Global) -> Builder
         ensures empty { data_of result ≡ empty }
+        ensures owners { KnowsOwners result }
     {
         Builder {
             lines: Vec::new(alloc),
@@ -41,6 +42,7 @@ impl Builder {
             texts: Lexicon::new(alloc),
             people: Lexicon::new(alloc),
             scripts: Vec::new(alloc),
+            owners: Vec::new(alloc),
         }
     }
 
@@ -50,7 +52,8 @@ impl Builder {
         line: &[u8],
         sentence: &Sentence,
     ) -> Result<Option<Misplaced>, AllocError>
-        requires { length self.now.lines.items < 2 ^ 31 }
+        requires room { length self.now.lines.items < 2 ^ 31 }
+        requires owners { KnowsOwners self.now }
         ensures { IfOk result (λ why. why ≡ misplaced (data_of self.now) (said line.now sentence.now)) }
     {
         match sentence {
@@ -81,7 +84,8 @@ impl Builder {
         node: Name,
         way: Way,
     ) -> Result<Option<Misplaced>, AllocError>
-        requires { length self.now.lines.items < 2 ^ 31 }
+        requires room { length self.now.lines.items < 2 ^ 31 }
+        requires owners { KnowsOwners self.now }
         ensures { IfOk result (λ why. why ≡ misplaced_at (data_of self.now) way (port_named (data_of self.now) (name_at line.now node))) }
     {
         let name = name_in(line, node)?;
@@ -98,6 +102,7 @@ impl Builder {
     }
 
     fn misplaced_at(&self, port: Option<(u32, Way)>, way: Way) -> Option<Misplaced>
+        requires { KnowsOwners self.now }
         ensures { result ≡ misplaced_at (data_of self.now) way port }
     {
         let Some((number, other)) = port else {
@@ -106,13 +111,30 @@ impl Builder {
         if other != way {
             return Some(Misplaced::WrongWay);
         }
-        if is_taken(self.scripts.as_slice(), number) {
+        if self.is_taken(number) {
             return Some(Misplaced::PortShared);
         }
         if is_full(self.scripts.as_slice()) {
             return Some(Misplaced::TooManyOps);
         }
         None
+    }
+
+    // A component that is not the last one has an operation at the port.
+    fn is_taken(&self, port: u32) -> bool
+        requires { KnowsOwners self.now }
+        ensures { result ≡ is_taken self.now.scripts.items port }
+    {
+        is_before(self.scripts.len().saturating_sub(1), self.owner(port))
+    }
+
+    fn owner(&self, port: u32) -> Option<usize>
+        ensures { result ≡ owner_at self.now.owners.items port }
+    {
+        match self.owners.get(port as usize) {
+            Some(owner) => *owner,
+            None => None,
+        }
     }
 
     /// Adds what a line says.
@@ -122,8 +144,10 @@ impl Builder {
         line: &[u8],
         sentence: Sentence,
     ) -> Result<(), AllocError>
-        requires { length self.old.lines.items < 2 ^ 31 }
+        requires room { length self.old.lines.items < 2 ^ 31 }
+        requires owners { KnowsOwners self.old }
         ensures exact { OnOk result (data_of self.new ≡ with_said (data_of self.old) (said line.now sentence)) }
+        ensures owners { OnOk result (KnowsOwners self.new) }
         ensures lines { OnOk result (length self.new.lines.items ≤ length self.old.lines.items + 1) }
     {
         match sentence {
@@ -144,7 +168,9 @@ impl Builder {
     }
 
     fn add_port(&mut self, alloc: Global, node: &str, way: Way) -> Result<(), AllocError>
+        requires owners { KnowsOwners self.old }
         ensures exact { OnOk result (data_of self.new ≡ with_said (data_of self.old) (PortSaid way node.now)) }
+        ensures owners { OnOk result (KnowsOwners self.new) }
         ensures lines { OnOk result (length self.new.lines.items ≤ length self.old.lines.items + 1) }
     {
         let node = number(alloc, &mut self.nodes, node)?;
@@ -153,7 +179,9 @@ impl Builder {
     }
 
     fn add_channel(&mut self, alloc: Global, kind: Kind, a: &str, b: &str) -> Result<(), AllocError>
+        requires owners { KnowsOwners self.old }
         ensures exact { OnOk result (data_of self.new ≡ with_said (data_of self.old) (ChannelSaid kind a.now b.now)) }
+        ensures owners { OnOk result (KnowsOwners self.new) }
         ensures lines { OnOk result (length self.new.lines.items ≤ length self.old.lines.items + 1) }
     {
         let first = number(alloc, &mut self.nodes, a)?;
@@ -167,7 +195,9 @@ impl Builder {
     }
 
     fn add_component(&mut self, alloc: Global, name: &str) -> Result<(), AllocError>
+        requires owners { KnowsOwners self.old }
         ensures exact { OnOk result (data_of self.new ≡ with_said (data_of self.old) (ComponentSaid name.now)) }
+        ensures owners { OnOk result (KnowsOwners self.new) }
         ensures lines { OnOk result (self.new.lines.items ≡ self.old.lines.items) }
     {
         number(alloc, &mut self.people, name)?;
@@ -177,16 +207,17 @@ impl Builder {
 
     // Adds an operation to the last script.
     fn add_operation(&mut self, port: u32, value: Option<Value>) -> Result<(), AllocError>
+        requires owners { KnowsOwners self.old }
         ensures exact { OnOk result (data_of self.new ≡ record (data_of self.old) { scripts = with_operation self.old.scripts.items (operation_at port value) }) }
+        ensures owners { OnOk result (KnowsOwners self.new) }
         ensures lines { OnOk result (self.new.lines.items ≡ self.old.lines.items) }
     {
         if self.scripts.is_empty() {
             return Ok(());
         }
         let last = self.scripts.len() - 1;
-        let operation = operation_at(port, value);
-        self.scripts[last].push(operation)?;
-        Ok(())
+        push_last(&mut self.scripts, port, value)?;
+        claim(&mut self.owners, port, last)
     }
 
     // The number of the first port at the node of this name, or 0 where there is none.
@@ -254,39 +285,40 @@ fn port_at(lines: &[Line], node: u32) -> Option<(u32, Way)>
     None
 }
 
-// A component that is not the last one has an operation at the port.
-fn is_taken(scripts: &[Items<Op>], port: u32) -> bool
-    ensures { result ≡ is_taken scripts.now port }
+// Adds an operation to the last script.
+fn push_last(
+    scripts: &mut Vec<Items<Op>>,
+    port: u32,
+    value: Option<Value>,
+) -> Result<(), AllocError>
+    requires { 0 < length scripts.old.items }
+    ensures { OnOk result (scripts.new.items ≡ with_operation scripts.old.items (operation_at port value)) }
 {
-    earlier(scripts).iter().any(|script| uses(script, port))
+    let last = scripts.len() - 1;
+    let operation = operation_at(port, value);
+    scripts[last].push(operation)?;
+    Ok(())
 }
 
-// All scripts but the last.
-fn earlier(scripts: &[Items<Op>]) -> &[Items<Op>]
-    ensures { result.now ≡ take (length scripts.now - 1) scripts.now }
+fn is_before(count: usize, owner: Option<usize>) -> bool
+    ensures { result ≡ is_before count owner }
 {
-    match scripts.len().checked_sub(1) {
-        Some(count) => &scripts[..count],
-        None => scripts,
+    match owner {
+        Some(owner) => owner < count,
+        None => false,
     }
 }
 
-fn uses(script: &Items<Op>, port: u32) -> bool
-    ensures { result ≡ list_any (λ o. port_of o == port) script.now }
+// Notes the component that uses a port, where none did.
+fn claim(owners: &mut Vec<Option<usize>>, port: u32, owner: usize) -> Result<(), AllocError>
+    ensures { OnOk result (Claims owners.old.items owners.new.items port owner) }
 {
-    script
-        .as_slice()
-        .iter()
-        .any(|operation| port_of(operation) == port)
-}
-
-fn port_of(operation: &Op) -> u32
-    ensures { result ≡ port_of operation.now }
-{
-    match operation {
-        Op::Put(port, _) => *port,
-        Op::Get(port) => *port,
+    let port = port as usize;
+    'more: while owners.len() <= port {
+        owners.push(None)?;
     }
+    owners[port] = owners[port].or(Some(owner));
+    Ok(())
 }
 
 // There are as many operations as a document may have.

@@ -2,11 +2,13 @@
 #![tactic(auto)]
 
 mod builder;
+mod document;
 pub mod laws;
 mod line;
 mod lines;
 mod read;
 mod refusal;
 
+pub use document::{Document, read_document};
 pub use line::Line;
 pub use refusal::TextRefusal;

@@ -4,7 +4,7 @@ ghost use Rattle.reo_token.specs.Cut.{cut, IsWithin};
 ghost use Rattle.reo_token.specs.declared.token.End.TheVariants.{Over as IsOver};
 ghost use Rattle.reo_sentence.specs.LineReading.{place_of};
 ghost use Rattle.reo_document.specs.Spells.{place_in, refusal_at, Leads, LinesLead, Goes, Spells};
-ghost use Rattle.reo_document.specs.Builder.{data_of};
+ghost use Rattle.reo_document.specs.Builder.{data_of, KnowsOwners};
 ghost use Rattle.reo_document.specs.Reading.{StopsWith, StopsIn, IsRefusalOf};
 ghost use Rattle.reo_document.specs.Lines.{lines_of};
 
@@ -26,7 +26,9 @@ impl Builder {
     ) -> Result<(), TextRefusal>
         requires short { length line.now < 2 ^ 31 }
         requires room { length self.old.lines.items < 2 ^ 31 }
+        requires owners { KnowsOwners self.old }
         ensures goes { OnOk result (Leads (data_of self.old) number line.now (Goes (data_of self.new))) }
+        ensures owners { OnOk result (KnowsOwners self.new) }
         ensures stops { IfErr result (StopsWith (data_of self.old) number line.now) }
         ensures lines { OnOk result (length self.new.lines.items ≤ length self.old.lines.items + 1) }
     {
@@ -56,10 +58,12 @@ impl Builder {
     ) -> Result<(), TextRefusal>
         requires short { length line.now < 2 ^ 31 }
         requires room { length self.old.lines.items < 2 ^ 31 }
+        requires owners { KnowsOwners self.old }
         requires cut { (tokens.now, IsOver) ≡ cut 512 0 line.now }
         requires within { All (IsWithin (length line.now)) tokens.now }
         requires some { tokens.now ≢ [] }
         ensures goes { OnOk result (Leads (data_of self.old) number line.now (Goes (data_of self.new))) }
+        ensures owners { OnOk result (KnowsOwners self.new) }
         ensures stops { IfErr result (StopsWith (data_of self.old) number line.now) }
         ensures lines { OnOk result (length self.new.lines.items ≤ length self.old.lines.items + 1) }
     {
@@ -122,6 +126,7 @@ pub(crate) fn read_parts(alloc: Global, bytes: &[u8]) -> Result<Builder, TextRef
 fn read_lines(alloc: Global, builder: &mut Builder, bytes: &[u8]) -> Result<(), TextRefusal>
     requires short { length bytes.now ≤ 8388608 }
     requires room { length builder.old.lines.items ≡ 0 }
+    requires owners { KnowsOwners builder.old }
     ensures goes { OnOk result (LinesLead (data_of builder.old) 1 (lines_of bytes.now) (Goes (data_of builder.new))) }
     ensures stops { IfErr result (StopsIn (data_of builder.old) 1 (lines_of bytes.now)) }
 {

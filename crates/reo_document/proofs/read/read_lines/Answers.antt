@@ -9,15 +9,18 @@ use Rattle.reo_document.proofs.read.read_lines.Goals as goal
 pub returns-in_err-read-clause-stops : goal.returns-in_err-read-clause-stops
 returns-in_err-read-clause-stops c =
     passed_on c.from_residual.result c.in_err-read.field-0.0 (StopsIn (data_of c.args.builder.now) 1 (lines_of c.args.bytes.now)) c.from_residual.ensures.1
-    (leads_stops (data_of c.args.builder.now) (data_of c.lines.builder) c.args.bytes.now c.lines.rest.now c.next_line.result.0.now _ c.lines.number c.in_err-read.field-0.0 c.lines.invariant c.next_line.ensures.exact c.in_err-read.ensures.stops)
+    (leads_stops (data_of c.args.builder.now) (data_of c.lines.builder) c.args.bytes.now c.lines.rest.now c.next_line.result.0.now _ c.lines.number c.in_err-read.field-0.0 c.lines.invariant.on c.next_line.ensures.exact c.in_err-read.ensures.stops)
 
 pub returns-in_default-clause-goes : goal.returns-in_default-clause-goes
 returns-in_default-clause-goes c =
-    leads_last (data_of c.args.builder.now) (data_of c.lines.builder) (data_of c.read.new.self) c.args.bytes.now c.lines.rest.now c.next_line.result.0.now c.lines.number c.lines.invariant
+    leads_last (data_of c.args.builder.now) (data_of c.lines.builder) (data_of c.read.new.self) c.args.bytes.now c.lines.rest.now c.next_line.result.0.now c.lines.number c.lines.invariant.on
     (c.next_line.ensures.exact ∙ ap (λ m. c.next_line.result.0.now ∷ lines_behind (option_copied m)) c.in_default.is) c.in_ok-read.ensures.goes
 
 pub lines-preserved : goal.lines-preserved
-lines-preserved c =
-    leads_next (data_of c.args.builder.now) (data_of c.lines.builder) (data_of c.read.new.self) c.args.bytes.now c.lines.rest.now c.next_line.result.0.now c.in-Some.more.now c.lines.number c.lines.invariant
-    (c.next_line.ensures.exact ∙ ap (λ m. c.next_line.result.0.now ∷ lines_behind (option_copied m)) c.in-Some.is)
-    (subst (λ m. IfSome m (λ r. length r.now < length c.lines.rest.now)) c.in-Some.is c.next_line.ensures.fewer) c.in_ok-read.ensures.goes c.in_ok-read.ensures.lines
+lines-preserved c = record {
+  on =
+      leads_next (data_of c.args.builder.now) (data_of c.lines.builder) (data_of c.read.new.self) c.args.bytes.now c.lines.rest.now c.next_line.result.0.now c.in-Some.more.now c.lines.number c.lines.invariant.on
+      (c.next_line.ensures.exact ∙ ap (λ m. c.next_line.result.0.now ∷ lines_behind (option_copied m)) c.in-Some.is)
+      (subst (λ m. IfSome m (λ r. length r.now < length c.lines.rest.now)) c.in-Some.is c.next_line.ensures.fewer) c.in_ok-read.ensures.goes c.in_ok-read.ensures.lines;
+  owners = c.in_ok-read.ensures.owners;
+}

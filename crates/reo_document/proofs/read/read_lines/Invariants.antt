@@ -1,10 +1,13 @@
 use Rattle.std.proofs.Common.{length}
-use Rattle.reo_document.specs.Builder.{data_of}
+use Rattle.reo_document.specs.Builder.{data_of, KnowsOwners}
 use Rattle.reo_document.proofs.ReadLemmas.{LeadsOn}
 use Rattle.reo_document.proofs.read.read_lines.Given as goal
 
 abbrev pub invariant-lines : goal.invariant-lines
-invariant-lines l = LeadsOn (data_of l.fn.builder) l.bytes (data_of l.builder) l.rest l.number
+invariant-lines l = record {
+  on : LeadsOn (data_of l.fn.builder) l.bytes (data_of l.builder) l.rest l.number;
+  owners : KnowsOwners l.builder;
+}
 
 abbrev pub decreases-lines : goal.decreases-lines
 decreases-lines l = length l.rest

@@ -1,7 +1,14 @@
-use Rattle.std.proofs.Common.{◌∷◌, [], ◌++◌, ap, ◌∙◌}
+use Rattle.std.proofs.Common.{◌∷◌, [], ◌++◌, sym, ap, ◌∙◌}
+use Rattle.reo_document.specs.Builder.{owner_of}
 use Rattle.reo_document.proofs.BuilderLemmas.{with_people}
+use Rattle.reo_document.proofs.OwnerLemmas.{owner_of-empty}
 use Rattle.reo_document.proofs.builder.Builder.add_component.Goals as goal
 
 pub returns-clause-exact : goal.returns-clause-exact
 returns-clause-exact c =
     with_people c.args.self.now.lines.items c.args.self.now.nodes c.args.self.now.texts c.args.self.now.people _ c.args.self.now.scripts.items _ c.args.name.now c.in_ok-number.ensures.names (c.in_ok-push.ensures.items ∙ ap (λ s. c.args.self.now.scripts.items ++ s ∷ []) c.new.ensures)
+
+pub returns-clause-owners : goal.returns-clause-owners
+returns-clause-owners c = λ port.
+    c.requires.owners port ∙ sym (owner_of-empty c.args.self.now.scripts.items port)
+    ∙ ap (λ scripts. owner_of scripts port) (sym (c.in_ok-push.ensures.items ∙ ap (λ s. c.args.self.now.scripts.items ++ s ∷ []) c.new.ensures))

@@ -1,0 +1,145 @@
+//! The lines, each appended to a buffer.
+ghost use Rattle.std.specs.Prelude.{◌≡◌, ◌+◌, flat_map, length, count_by, decimal};
+ghost use Rattle.reo_outline.specs.Buffer.{Adds};
+ghost use Rattle.reo_outline.specs.Outline.{is_of, name_part, firing_line, head_line, cell_line, port_line};
+
+use reo_cut::{CellCut, Cut};
+use reo_net::Net;
+use reo_product::{Firing, RegionTable};
+use reo_trace::{push_bytes, push_decimal, push_name};
+use reo_value::Lexicon;
+use std::alloc::AllocError;
+
+/// Appends a number that counts from 0, counted from 1.
+fn push_from_one(buffer: &mut Vec<u8>, number: u32) -> Result<(), AllocError>
+    ensures { Adds buffer.old buffer.new result (decimal (number + 1)) }
+{
+    push_decimal(buffer, u64::from(number) + 1)
+}
+
+fn push_name_part(
+    buffer: &mut Vec<u8>,
+    net: &Net,
+    nodes: &Lexicon,
+    name: u32,
+) -> Result<(), AllocError>
+    ensures { Adds buffer.old buffer.new result (name_part net.now nodes.now name) }
+{
+    push_bytes(buffer, b" ")?;
+    push_name(buffer, net, nodes, name)
+}
+
+fn push_names(
+    buffer: &mut Vec<u8>,
+    net: &Net,
+    nodes: &Lexicon,
+    names: &[u32],
+) -> Result<(), AllocError>
+    ensures { Adds buffer.old buffer.new result (flat_map (name_part net.now nodes.now) names.now) }
+{
+    for name in names {
+        push_name_part(buffer, net, nodes, *name)?;
+    }
+    Ok(())
+}
+
+pub(crate) fn push_firing(
+    buffer: &mut Vec<u8>,
+    net: &Net,
+    nodes: &Lexicon,
+    firing: &Firing,
+) -> Result<(), AllocError>
+    ensures { Adds buffer.old buffer.new result (firing_line net.now nodes.now firing.now) }
+{
+    push_bytes(buffer, b"firing")?;
+    push_names(buffer, net, nodes, firing.names.as_slice())?;
+    push_bytes(buffer, b"\n")
+}
+
+fn is_of(region: u32, entry: Option<u32>) -> bool
+    ensures { result ≡ is_of region entry }
+{
+    match entry {
+        Some(number) => number == region,
+        None => false,
+    }
+}
+
+/// How many automata are of the region.
+fn automata_in(region_of: &[Option<u32>], region: u32) -> usize
+    ensures { result ≡ count_by (is_of region) region_of.now }
+{
+    region_of
+        .iter()
+        .filter(|entry| is_of(region, **entry))
+        .count()
+}
+
+/// Appends how many automata are of the region.
+fn push_automata(buffer: &mut Vec<u8>, cut: &Cut, region: u32) -> Result<(), AllocError>
+    ensures { Adds buffer.old buffer.new result (decimal (count_by (is_of region) cut.now.region_of)) }
+{
+    let count = automata_in(cut.region_of.as_slice(), region);
+    push_decimal(buffer, count as u64)
+}
+
+/// Appends how many firings there are.
+fn push_count(buffer: &mut Vec<u8>, table: &RegionTable) -> Result<(), AllocError>
+    ensures { Adds buffer.old buffer.new result (decimal (length table.now.firings)) }
+{
+    push_decimal(buffer, table.firings.len() as u64)
+}
+
+/// Appends how many vertices grow.
+fn push_growth(buffer: &mut Vec<u8>, table: &RegionTable) -> Result<(), AllocError>
+    ensures { Adds buffer.old buffer.new result (decimal table.now.growth) }
+{
+    push_decimal(buffer, u64::from(table.growth))
+}
+
+pub(crate) fn push_head(
+    buffer: &mut Vec<u8>,
+    cut: &Cut,
+    number: u32,
+    table: &RegionTable,
+) -> Result<(), AllocError>
+    ensures { Adds buffer.old buffer.new result (head_line cut.now number table.now) }
+{
+    push_bytes(buffer, b"region ")?;
+    push_from_one(buffer, number)?;
+    push_bytes(buffer, b" automata ")?;
+    push_automata(buffer, cut, number)?;
+    push_bytes(buffer, b" firings ")?;
+    push_count(buffer, table)?;
+    push_bytes(buffer, b" growth ")?;
+    push_growth(buffer, table)?;
+    push_bytes(buffer, b"\n")
+}
+
+pub(crate) fn push_cell(buffer: &mut Vec<u8>, cell: CellCut) -> Result<(), AllocError>
+    ensures { Adds buffer.old buffer.new result (cell_line cell) }
+{
+    push_bytes(buffer, b"cell ")?;
+    push_from_one(buffer, cell.channel)?;
+    push_bytes(buffer, b" from ")?;
+    push_from_one(buffer, cell.filler)?;
+    push_bytes(buffer, b" to ")?;
+    push_from_one(buffer, cell.taker)?;
+    push_bytes(buffer, b"\n")
+}
+
+pub(crate) fn push_port(
+    buffer: &mut Vec<u8>,
+    net: &Net,
+    nodes: &Lexicon,
+    number: u32,
+    region: u32,
+) -> Result<(), AllocError>
+    ensures { Adds buffer.old buffer.new result (port_line net.now nodes.now number region) }
+{
+    push_bytes(buffer, b"port ")?;
+    push_name(buffer, net, nodes, number)?;
+    push_bytes(buffer, b" region ")?;
+    push_from_one(buffer, region)?;
+    push_bytes(buffer, b"\n")
+}

@@ -1,0 +1,104 @@
+//! The whole text.
+ghost use Rattle.std.specs.Prelude.{◌≡◌, ◌<◌, ◌^◌, flat_map, length, IfOk};
+ghost use Rattle.reo_trace.specs.Passes.{numbered};
+ghost use Rattle.reo_outline.specs.Buffer.{Adds};
+ghost use Rattle.reo_outline.specs.Outline.{firing_line, region_lines, cell_line, port_line, outline_text};
+
+use crate::lines::{push_cell, push_firing, push_head, push_port};
+use reo_cut::{CellCut, Cut};
+use reo_net::Net;
+use reo_product::{Firing, RegionTable};
+use reo_trace::{push_bytes, push_decimal};
+use reo_value::Lexicon;
+use std::alloc::{AllocError, Global};
+
+fn push_firings(
+    buffer: &mut Vec<u8>,
+    net: &Net,
+    nodes: &Lexicon,
+    firings: &[Firing],
+) -> Result<(), AllocError>
+    ensures { Adds buffer.old buffer.new result (flat_map (firing_line net.now nodes.now) firings.now) }
+{
+    for firing in firings {
+        push_firing(buffer, net, nodes, firing)?;
+    }
+    Ok(())
+}
+
+fn push_region(
+    buffer: &mut Vec<u8>,
+    net: &Net,
+    nodes: &Lexicon,
+    cut: &Cut,
+    number: u32,
+    table: &RegionTable,
+) -> Result<(), AllocError>
+    ensures { Adds buffer.old buffer.new result (region_lines net.now nodes.now cut.now number table.now) }
+{
+    push_head(buffer, cut, number, table)?;
+    push_firings(buffer, net, nodes, table.firings.as_slice())
+}
+
+fn push_regions(
+    buffer: &mut Vec<u8>,
+    net: &Net,
+    nodes: &Lexicon,
+    cut: &Cut,
+    tables: &[RegionTable],
+) -> Result<(), AllocError>
+    requires { length tables.now < 2 ^ 32 }
+    ensures { Adds buffer.old buffer.new result (numbered (region_lines net.now nodes.now cut.now) 0 tables.now) }
+{
+    for (number, table) in tables.iter().enumerate() {
+        push_region(buffer, net, nodes, cut, number as u32, table)?;
+    }
+    Ok(())
+}
+
+fn push_cells(buffer: &mut Vec<u8>, cells: &[CellCut]) -> Result<(), AllocError>
+    ensures { Adds buffer.old buffer.new result (flat_map cell_line cells.now) }
+{
+    for cell in cells {
+        push_cell(buffer, *cell)?;
+    }
+    Ok(())
+}
+
+fn push_ports(
+    buffer: &mut Vec<u8>,
+    net: &Net,
+    nodes: &Lexicon,
+    regions: &[u32],
+) -> Result<(), AllocError>
+    requires { length regions.now < 2 ^ 32 }
+    ensures { Adds buffer.old buffer.new result (numbered (port_line net.now nodes.now) 0 regions.now) }
+{
+    for (number, region) in regions.iter().enumerate() {
+        push_port(buffer, net, nodes, number as u32, *region)?;
+    }
+    Ok(())
+}
+
+/// The text that tells the regions of a circuit, with these names of nodes and these tables of its regions in their order.
+/// It takes memory in proportion to the names of all firings.
+pub fn outline_of(
+    alloc: Global,
+    net: &Net,
+    nodes: &Lexicon,
+    cut: &Cut,
+    tables: &[RegionTable],
+) -> Result<Vec<u8>, AllocError>
+    requires tables { length tables.now < 2 ^ 32 }
+    requires ports { length cut.now.port_region < 2 ^ 32 }
+    ensures text { IfOk result (λ text. text.items ≡ outline_text net.now nodes.now cut.now tables.now) }
+{
+    let mut text = Vec::new(alloc);
+    push_bytes(&mut text, b"regions ")?;
+    push_decimal(&mut text, u64::from(cut.regions))?;
+    push_bytes(&mut text, b"\n")?;
+    push_regions(&mut text, net, nodes, cut, tables)?;
+    push_cells(&mut text, cut.cells.as_slice())?;
+    push_ports(&mut text, net, nodes, cut.port_region.as_slice())?;
+    Ok(text)
+}

@@ -1,7 +1,0 @@
-use Rattle.std.proofs.Common.{◌≡◌, take}
-use Rattle.std.specs.List.{filter_map}
-use Rattle.reo_text.specs.Parts.{port_in}
-use Rattle.reo_text.proofs.document.ports_in.Given as goal
-
-abbrev pub invariant-loop-line : goal.invariant-loop-line
-invariant-loop-line l = l.ports.items ≡ filter_map port_in (take l.line-index l.lines)
