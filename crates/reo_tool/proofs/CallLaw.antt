@@ -1,169 +1,179 @@
--- The cause of each status, and what the causes rule out.
-use Rattle.std.proofs.Common.{◌≡◌, ℕ, ◌+◌, ◌≤◌, ◌⊎◌, List, length, get_or, slice_get, Bool, true, false, Some, None, refl, sym, ap, ◌∙◌, subst, inl, inr, ⊎_elim, arith}
+-- The causes of what a call writes, and what they rule out.
+use Rattle.std.proofs.Common.{◌≡◌, ◌≢◌, ℕ, ◌+◌, ◌<◌, ◌≤◌, ◌⊎◌, List, length, get_or, slice_get, take, Bool, true, false, Option, Some, None, refl, sym, ap, ◌∙◌, subst, inl, inr, ⊎_elim, arith}
+use Rattle.std.specs.Prelude.{Result, Ok, Err}
+use Rattle.std.specs.Result.{OnOk, IfErr, MatchResult}
 use Rattle.std.specs.Borrow.{Bor}
-use Rattle.reo_base.specs.Faults.{Rose}
-use Rattle.reo_base.specs.Streams.{IsReadWhole}
-use Rattle.reo_graph.specs.Paths.{IsLeast}
-use Rattle.reo_net.specs.Kind.{is_fifo}
-use Rattle.reo_net.specs.declared.circuit.Channel.{Channel}
-use Rattle.std.proofs.lemmas.Option.{slice_get-get_or}
-use Rattle.reo_net.specs.Checks.{IsChecked, IsFifoOnly}
-use Rattle.reo_net.proofs.FifoLemmas.{fifo_at}
-use Rattle.std.proofs.lemmas.Bool.{false≢true}
-use Rattle.reo_net.specs.Refusals.{Refuses}
-use Rattle.reo_net.specs.declared.net.CheckRefusal.{CheckRefusal}
-use Rattle.reo_net.specs.declared.net.CheckRefusal.TheVariants as refusal
-use Rattle.reo_net.specs.declared.circuit.RawCircuit.{RawCircuit}
-use Rattle.reo_text.specs.Parts.{DocumentData, circuit_of}
-use Rattle.reo_text.specs.Plain.{Spells, IsRefusedAt}
-use Rattle.reo_trace.specs.declared.report.Ending.{Ending}
-use Rattle.reo_trace.specs.declared.report.Ending.TheVariants as ending
-use Rattle.reo_trace.specs.declared.report.Report.{Report}
-use Rattle.reo_trace.specs.Lawful.{IsLawfulReport}
+use Rattle.std.proofs.lemmas.Option.{none-some, same_Some}
+use Rattle.reo_base.specs.Faults.{Rose, HasCause}
+use Rattle.reo_base.specs.Streams.{IsReadWhole, IsExtended}
+use Rattle.reo_base.specs.declared.whole_write.WriteFault.{WriteFault as Fault}
+use Rattle.reo_document.specs.declared.refusal.TextRefusal.{TextRefusal}
+use Rattle.reo_document.specs.declared.refusal.TextRefusal.TheVariants as text
+use Rattle.reo_document.specs.Document.{DocumentData, circuit_of}
+use Rattle.reo_document.specs.Reading.{IsRefusalOf}
+use Rattle.reo_document.specs.Spells.{Spells, IsRefusedAs}
+use Rattle.reo_document.proofs.SpellLemmas.{one_document, refused_alone}
+use Rattle.reo_session.specs.declared.preparation.SessionRefusal.{SessionRefusal}
+use Rattle.reo_session.specs.declared.preparation.SessionRefusal.TheVariants as session
+use Rattle.reo_session.specs.Prepared.{Declines}
+use Rattle.reo_tool.specs.declared.command.Command.{Command}
+use Rattle.reo_tool.specs.declared.command.Command.TheVariants.{Run, Show, Plan}
 use Rattle.reo_tool.specs.declared.status.Status.{Status}
-use Rattle.reo_tool.specs.declared.status.Status.TheVariants.{Done, Stuck, Limit, Refused, Usage, ReadFault, WriteFault, Memory}
-use Rattle.reo_tool.specs.Status.{status_of}
-use Rattle.reo_tool.specs.FaultText.{line_text, channel_text, check_text}
-use Rattle.reo_tool.specs.Call.{IsRunPlain, Streams, IsAccepted, IsReported, IsRun, RefusedFor, ForLine, ForCircuit, ForChannel, IsOtherChannel, ReadFaultFor, ForFault, ForLength, HasCauseFor, WrittenOut, ToldOrMemory, IsPromised, IsRefusable, IsOverlong, IsOrAbove, most_steps, most_bytes}
+use Rattle.reo_tool.specs.declared.status.Status.TheVariants.{Refused, Usage, ReadFault, WriteFault, Memory}
+use Rattle.reo_tool.specs.FaultText.{out_of_memory_text, text_text, session_text}
+use Rattle.reo_tool.specs.Call.{asked, SourceSeen, SinkSeen, Target, ToOut, ToErr, Sinks, sink_at, other_sink, Breaks, IsWritten, IsTold, Writes, IsNotRun, Answers, CanAnswer, CannotAnswer, ForDocument, Answer, Refusal, Wanting, ForBytes, Spelled, NoDocument, BytesWanting, ForCall, Read, NoCommand, ReadFailed, TooLong, ReadWanting, IsPromised, IsAnswered, IsRefusable, IsOverlong, IsOrAbove, most_bytes}
+use Rattle.reo_tool.proofs.RefusalLaw.{not_run, not_run_for}
 
--- where no channel is another, all are FIFO1s
-pub only_fifos : (c : RawCircuit) (channels : List Channel) → channels ≡ c.channels → IsLeast (IsOtherChannel channels) None → IsFifoOnly c
-only_fifos c channels same none k d h = go (is_fifo (get_or c.channels k d).kind) refl
-  where
-    go : (b : Bool) → is_fifo (get_or c.channels k d).kind ≡ b → is_fifo (get_or c.channels k d).kind ≡ true
-    go true e = e
-    go false e = absurd (none k (record { channel = get_or c.channels k d; found = ap (λ chs. slice_get chs k) same ∙ slice_get-get_or c.channels k d h; other = e }))
+-- what a write of a whole text tells
+pub written_by : (before after : SinkSeen) (told : List ℕ) (own status : Status) (r : Result (Unit {0}) Fault) → OnOk r (IsExtended before.held after.held told)
+    → IfErr r (λ fault. IsExtended before.held after.held (take fault.written told)) → IfErr r (λ fault. fault.written < length told) → HasCause before.faults after.faults r
+    → MatchResult r (λ _. status ≡ own) (λ _. status ≡ WriteFault) → IsWritten before after told own status
+written_by before after told own status (Ok done) whole front short cause is = inl (is, whole)
+written_by before after told own status (Err fault) whole front short cause is = inr (is, record { rose = cause.failed; count = fault.written; short = short; front = front })
 
--- an ending has the cause of a run
-run_cause : (words : List (Bor (List ℕ))) (before after : Streams) (e : Ending) → IsRun words before after (status_of e) → HasCauseFor words before after (status_of e)
-run_cause words before after ending.Done r = r
-run_cause words before after ending.Stuck r = r
-run_cause words before after ending.Limit r = r
+-- a text for one of the sinks
+pub writes_err : (H : Target → List ℕ → Status → Type 0) (before after : Sinks) (told : List ℕ) (own status : Status) → H ToErr told own → IsWritten before.err after.err told own status
+    → after.out ≡ before.out → Writes H before after status
+writes_err H before after told own status cause written quiet = record { target = ToErr; text = told; own = own; cause = cause; written = written; quiet = quiet }
 
-module _ (words : List (Bor (List ℕ))) (before after : Streams) (asked : IsRunPlain words) (bytes : List ℕ) (read : IsReadWhole before.left after.left bytes) (short : length bytes ≤ most_bytes) where
-  refused_cause : (text : List ℕ) (result : Status) → (result ≡ Refused → RefusedFor bytes text) → after.out ≡ before.out → ToldOrMemory Refused before.err after.err before.err_faults after.err_faults text result → HasCauseFor words before after result
-  refused_cause text result cause quiet told =
-      ⊎_elim
-      (λ t. subst (HasCauseFor words before after) (sym t.0) (record { asked = asked; bytes = bytes; read = read; short = short; text = text; cause = cause t.0; quiet = quiet; told = t.1 }))
-      (λ r. ⊎_elim (λ f. subst (HasCauseFor words before after) (sym f.0) (inr f.1)) (λ m. subst (HasCauseFor words before after) (sym m.0) (record { asked = asked; quiet = quiet; told = m.1 })) r)
-      told
+pub writes_out : (H : Target → List ℕ → Status → Type 0) (before after : Sinks) (told : List ℕ) (own status : Status) → H ToOut told own → IsWritten before.out after.out told own status
+    → after.err ≡ before.err → Writes H before after status
+writes_out H before after told own status cause written quiet = record { target = ToOut; text = told; own = own; cause = cause; written = written; quiet = quiet }
 
-  pub line_cause : (line : ℕ) (result : Status) → IsRefusedAt bytes line → after.out ≡ before.out → ToldOrMemory Refused before.err after.err before.err_faults after.err_faults (line_text line) result → HasCauseFor words before after result
-  line_cause line result at quiet told = refused_cause (line_text line) result (λ _. ForLine line at refl) quiet told
+-- a text for standard error, or want of memory in its place
+pub writes_told : (H : Target → List ℕ → Status → Type 0) (before after : Sinks) (told : List ℕ) (own status : Status) → H ToErr told own → H ToErr out_of_memory_text Memory
+    → IsTold before.err after.err told own status → after.out ≡ before.out → Writes H before after status
+writes_told H before after told own status cause wanting is quiet =
+    ⊎_elim (λ w. writes_err H before after told own status cause w quiet) (λ w. writes_err H before after out_of_memory_text Memory status wanting w quiet) is
 
-  pub circuit_cause : (document : DocumentData) (refused : CheckRefusal) (result : Status) → Spells bytes document → Refuses (circuit_of document) refused → (refused ≡ refusal.NoMemory → result ≡ Refused → ⊥) → after.out ≡ before.out → ToldOrMemory Refused before.err after.err before.err_faults after.err_faults (check_text document.nodes refused) result → HasCauseFor words before after result
-  circuit_cause document refused result spelled refuses named quiet told =
-      refused_cause (check_text document.nodes refused) result (λ is. ForCircuit document refused spelled refuses (λ e. named e is) refl) quiet told
+-- with a cause for each cause
+pub writes_as : (H J : Target → List ℕ → Status → Type 0) (before after : Sinks) (status : Status) → ((target : Target) (told : List ℕ) (own : Status) → H target told own → J target told own)
+    → Writes H before after status → Writes J before after status
+writes_as H J before after status forth is =
+    record { target = is.target; text = is.text; own = is.own; cause = forth is.target is.text is.own is.cause; written = is.written; quiet = is.quiet }
 
-  pub channel_cause : (document : DocumentData) (number : ℕ) (result : Status) → Spells bytes document → IsChecked (circuit_of document) → IsLeast (IsOtherChannel (circuit_of document).channels) (Some number) → after.out ≡ before.out → ToldOrMemory Refused before.err after.err before.err_faults after.err_faults (channel_text (number + 1)) result → HasCauseFor words before after result
-  channel_cause document number result spelled checked least quiet told =
-      refused_cause (channel_text (number + 1)) result (λ is. ForChannel document number spelled checked least refl) quiet told
+-- a refusal of bytes is told, where it is no want of memory
+pub text_told : (command : Command) (bytes : List ℕ) (refused : TextRefusal) (before after : Sinks) (status : Status) → IsRefusalOf bytes refused
+    → IsTold before.err after.err (text_text refused) Refused status → (refused ≡ text.NoMemory → IsWritten before.err after.err out_of_memory_text Memory status)
+    → after.out ≡ before.out → Writes (ForBytes command bytes) before after status
+text_told command bytes text.NoMemory before after status why told wanting quiet = writes_err (ForBytes command bytes) before after out_of_memory_text Memory status BytesWanting (wanting refl) quiet
+text_told command bytes refused before after status why told wanting quiet =
+    writes_told (ForBytes command bytes) before after (text_text refused) Refused status (NoDocument refused why) BytesWanting told quiet
 
-  pub report_cause : (document : DocumentData) (report : Report) (result : Status) → Spells bytes document → IsAccepted document → IsLawfulReport (circuit_of document) document.texts document.scripts most_steps report → length report.steps ≤ most_steps → (result ≡ status_of report.ending → after.err ≡ before.err) → WrittenOut (circuit_of document) document report before.out after.out before.out_faults after.out_faults before.err after.err before.err_faults after.err_faults result → HasCauseFor words before after result
-  report_cause document report result spelled accepted lawful within quiet written =
-      ⊎_elim
-      (λ w.
-      subst (HasCauseFor words before after) (sym w.0) (run_cause words before after report.ending (record {
-        asked = asked;
-        bytes = bytes;
-        read = read;
-        short = short;
-        document = document;
-        spelled = spelled;
-        accepted = accepted;
-        reported = record { report = report; lawful = lawful; within = within; written = w.1; quiet = quiet w.0; ending = refl };
-      })))
-      (λ r. ⊎_elim (λ f. subst (HasCauseFor words before after) (sym f.0) f.1) (λ m. subst (HasCauseFor words before after) (sym m.0) (record { asked = asked; quiet = m.1; told = m.2 })) r)
-      written
+-- and so is a refusal of a session
+pub session_told : (command : Command) (document : DocumentData) (refused : SessionRefusal) (before after : Sinks) (status : Status) → ((told : List ℕ) → IsNotRun document told → CannotAnswer command document told)
+    → Declines (circuit_of document) refused → IsTold before.err after.err (session_text document.nodes refused) Refused status
+    → (refused ≡ session.NoMemory → IsWritten before.err after.err out_of_memory_text Memory status) → after.out ≡ before.out → Writes (ForDocument command document) before after status
+session_told command document session.NoMemory before after status cannot why told wanting quiet = writes_err (ForDocument command document) before after out_of_memory_text Memory status Wanting (wanting refl) quiet
+session_told command document refused before after status cannot why told wanting quiet =
+    writes_told (ForDocument command document) before after (session_text document.nodes refused) Refused status
+    (Refusal (session_text document.nodes refused) (cannot (session_text document.nodes refused) (not_run_for document refused why (λ is. cc)))) Wanting told quiet
 
--- bytes spell one document, and are not refused then
-one_document : (bytes : List ℕ) (d e : DocumentData) → Spells bytes d → Spells bytes e → d ≡ e
-one_document bytes d e is_d is_e = is_d.same ∙ sym is_e.same
+-- no command answers and does not
+not_both : (command : Command) (document : DocumentData) (told : List ℕ) → CanAnswer command document → CannotAnswer command document told → ⊥
+not_both (Run limit) document told can cannot = not_run document told cannot can
+not_both Show document told can cannot = cannot
+not_both Plan document told can cannot = not_run document told cannot can
 
-not_both : (bytes : List ℕ) (d : DocumentData) (line : ℕ) → Spells bytes d → IsRefusedAt bytes line → ⊥
-not_both bytes d line spelled refused =
-    ⊎_elim (λ short. omega (arith, spelled.each_fits, short)) (λ unended. unended.1 spelled.ended) refused.leaves
+-- what a command answers for a document, it can answer
+answers_can : (command : Command) (document : DocumentData) (told : List ℕ) (status : Status) → Answers command document told status → CanAnswer command document
+answers_can (Run limit) document told status answers = answers.accepted
+answers_can Show document told status answers = tt
+answers_can Plan document told status answers = answers.0.accepted
 
--- a circuit that is refused doesn't pass the checks
-not_accepted : (c : RawCircuit) (refused : CheckRefusal) → Refuses c refused → (refused ≡ refusal.NoMemory → ⊥) → IsChecked c → ⊥
-not_accepted c (refusal.TooManyChannels count) r named checked = omega (arith, r.0, checked.few_channels)
-not_accepted c (refusal.TooManyPorts count) r named checked = omega (arith, r.1, checked.few_ports)
-not_accepted c (refusal.PortTwice node) r named checked = checked.one_port node r.2.0
-not_accepted c (refusal.MixedPort node) r named checked = checked.unmixed node r.3.0
-not_accepted c (refusal.SyncLoop node) r named checked = checked.acyclic node r.4.0
-not_accepted c refusal.NoMemory r named checked = named refl
+or_above : (wanted own status : Status) (before after : SinkSeen) (told : List ℕ) → own ≡ wanted → IsWritten before after told own status → IsOrAbove wanted status
+or_above wanted own status before after told same written = ⊎_elim (λ w. inl (w.0 ∙ same)) (λ w. inr (inl w.0)) written
 
-no_refusal : (bytes text : List ℕ) (d : DocumentData) → Spells bytes d → IsAccepted d → RefusedFor bytes text → ⊥
-no_refusal bytes text d spelled accepted (ForLine line at is) = not_both bytes d line spelled at
-no_refusal bytes text d spelled accepted (ForCircuit e refused spelled_e refuses named is) =
-    not_accepted (circuit_of e) refused refuses named (subst IsAccepted (one_document bytes d e spelled spelled_e) accepted).checked
-no_refusal bytes text d spelled accepted (ForChannel e number spelled_e checked least is) =
-    let at = least.0 in
-    let only = (subst IsAccepted (one_document bytes d e spelled spelled_e) accepted).only in
-    false≢true (sym at.other ∙ fifo_at (circuit_of e) only number at.channel at.found)
+memory_above : (wanted status : Status) (before after : SinkSeen) (told : List ℕ) → IsWritten before after told Memory status → IsOrAbove wanted status
+memory_above wanted status before after told written = ⊎_elim (λ w. inr (inr w.0)) (λ w. inr (inl w.0)) written
 
-no_read_fault : (before after : Streams) (input : List ℕ) → before.left ≡ Some input → length input ≤ most_bytes → (Rose before.source_faults after.source_faults → ⊥) → ReadFaultFor before after → ⊥
-no_read_fault before after input told short held (ForFault rose text) = held rose
-no_read_fault before after input told short held (ForLength long gone text) = omega (arith, long input told)
+module _ (words : List (Bor (List ℕ))) (source_before source_after : SourceSeen) (before after : Sinks) (status : Status) where
+  one_command : (one other : Command) → asked words ≡ Some one → asked words ≡ Some other → one ≡ other
+  one_command one other is also = same_Some _ _ (sym is ∙ also)
 
-module _ (words : List (Bor (List ℕ))) (before after : Streams) where
-  -- a run of what the bytes spell is a report of the document
-  reported : (status : Status) (document : DocumentData) → IsPromised words before after document status → IsRun words before after status → IsReported document before after status
-  reported status document promised run =
-      let same_bytes = (run.read promised.input promised.told).0 in
-      let same = one_document promised.input run.document document (subst (λ (bytes : List ℕ). Spells bytes run.document) same_bytes run.spelled) promised.spelled in
-      subst (λ (d : DocumentData). IsReported d before after status) same run.reported
+  no_command : (command : Command) → asked words ≡ Some command → asked words ≡ None → ⊥
+  no_command command is none = none-some command (sym none ∙ is)
 
-  pub promise_kept : (document : DocumentData) (status : Status) → HasCauseFor words before after status → IsPromised words before after document status → IsReported document before after status
-  promise_kept document Done cause promised = reported Done document promised cause
-  promise_kept document Stuck cause promised = reported Stuck document promised cause
-  promise_kept document Limit cause promised = reported Limit document promised cause
-  promise_kept document Refused cause promised =
-      absurd (no_refusal promised.input cause.text document promised.spelled promised.accepted (subst (λ (bytes : List ℕ). RefusedFor bytes cause.text) (cause.read promised.input promised.told).0 cause.cause))
-  promise_kept document Usage cause promised = absurd (cause.other_words promised.asked)
-  promise_kept document ReadFault cause promised = absurd (no_read_fault before after promised.input promised.told promised.short promised.source_held cause.cause)
-  promise_kept document WriteFault cause promised = absurd (promised.sinks_held cause)
-  promise_kept document Memory cause promised = absurd (promised.memory refl)
+  module _ (command : Command) (document : DocumentData) (p : IsPromised words source_before source_after before after command document status) where
+    by_document : (target : Target) (told : List ℕ) (own : Status) → ForDocument command document target told own → IsWritten (sink_at target before) (sink_at target after) told own status
+        → other_sink target after ≡ other_sink target before → IsAnswered command document before after status
+    by_document _ _ _ (Answer told own answers) written quiet =
+        ⊎_elim (λ w. record { text = told; answer = subst (Answers command document told) (sym w.0) answers; written = w.1; quiet = quiet }) (λ w. absurd (p.sinks_held ToOut w.1.rose)) written
+    by_document _ _ _ (Refusal told cannot) written quiet = absurd (not_both command document told p.can cannot)
+    by_document _ _ _ Wanting written quiet = ⊎_elim (λ w. absurd (p.memory w.0)) (λ w. absurd (p.sinks_held ToErr w.1.rose)) written
+
+    by_bytes : (target : Target) (told : List ℕ) (own : Status) → ForBytes command p.input target told own → IsWritten (sink_at target before) (sink_at target after) told own status
+        → other_sink target after ≡ other_sink target before → IsAnswered command document before after status
+    by_bytes _ _ _ (Spelled other target told own spells has) written quiet =
+        by_document target told own (subst (λ (d : DocumentData). ForDocument command d target told own) (one_document p.input other document spells p.spelled) has) written quiet
+    by_bytes _ _ _ (NoDocument refused is) written quiet = absurd (refused_alone p.input document refused p.spelled is)
+    by_bytes _ _ _ BytesWanting written quiet = ⊎_elim (λ w. absurd (p.memory w.0)) (λ w. absurd (p.sinks_held ToErr w.1.rose)) written
+
+    by_call : (target : Target) (told : List ℕ) (own : Status) → ForCall words source_before source_after target told own → IsWritten (sink_at target before) (sink_at target after) told own status
+        → other_sink target after ≡ other_sink target before → IsAnswered command document before after status
+    by_call _ _ _ (Read other bytes target told own asks read short held has) written quiet =
+        by_bytes target told own
+        (subst (λ (c : Command). ForBytes c p.input target told own) (one_command other command asks p.asked_for)
+        (subst (λ (b : List ℕ). ForBytes other b target told own) (read p.input p.told).0 has)) written quiet
+    by_call _ _ _ (NoCommand none unread) written quiet = absurd (no_command command p.asked_for none)
+    by_call _ _ _ (ReadFailed other asks rose) written quiet = absurd (p.source_held rose)
+    by_call _ _ _ (TooLong other asks more gone) written quiet = absurd (omega (arith, more p.input p.told, p.short))
+    by_call _ _ _ (ReadWanting other asks held gone) written quiet = ⊎_elim (λ w. absurd (p.memory w.0)) (λ w. absurd (p.sinks_held ToErr w.1.rose)) written
+
+  pub promise_kept : Writes (ForCall words source_before source_after) before after status → (command : Command) (document : DocumentData)
+      → IsPromised words source_before source_after before after command document status → IsAnswered command document before after status
+  promise_kept w command document p = by_call command document p w.target w.text w.own w.cause w.written w.quiet
 
   -- other words are told the usage
-  pub usage_told : (status : Status) → HasCauseFor words before after status → (IsRunPlain words → ⊥) → (status ≡ Usage) ⊎ (status ≡ WriteFault)
-  usage_told Done cause other = absurd (other cause.asked)
-  usage_told Stuck cause other = absurd (other cause.asked)
-  usage_told Limit cause other = absurd (other cause.asked)
-  usage_told Refused cause other = absurd (other cause.asked)
-  usage_told Usage cause other = inl refl
-  usage_told ReadFault cause other = absurd (other cause.asked)
-  usage_told WriteFault cause other = inr refl
-  usage_told Memory cause other = absurd (other cause.asked)
+  usage_by : (target : Target) (told : List ℕ) (own : Status) → asked words ≡ None → ForCall words source_before source_after target told own
+      → IsWritten (sink_at target before) (sink_at target after) told own status → (status ≡ Usage) ⊎ (status ≡ WriteFault)
+  usage_by _ _ _ none (Read command bytes target told own asks read short held has) written = absurd (no_command command asks none)
+  usage_by _ _ _ none (NoCommand also unread) written = ⊎_elim (λ w. inl w.0) (λ w. inr w.0) written
+  usage_by _ _ _ none (ReadFailed command asks rose) written = absurd (no_command command asks none)
+  usage_by _ _ _ none (TooLong command asks more gone) written = absurd (no_command command asks none)
+  usage_by _ _ _ none (ReadWanting command asks held gone) written = absurd (no_command command asks none)
 
-  -- refused bytes are not run
-  not_run : (status : Status) → IsRefusable words before after → IsRun words before after status → ⊥
-  not_run status r run =
-      let spelled = subst (λ (bytes : List ℕ). Spells bytes run.document) (run.read r.input r.told).0 run.spelled in
-      ⊎_elim
-      (λ line. not_both r.input run.document line.0 spelled line.1)
-      (λ d. d.2 (subst IsAccepted (one_document r.input run.document d.0 spelled d.1) run.accepted))
-      r.refused
+  pub usage_told : Writes (ForCall words source_before source_after) before after status → asked words ≡ None → (status ≡ Usage) ⊎ (status ≡ WriteFault)
+  usage_told w none = usage_by w.target w.text w.own none w.cause w.written
 
-  pub refusal_told : (status : Status) → HasCauseFor words before after status → IsRefusable words before after → IsOrAbove Refused status
-  refusal_told Done cause r = absurd (not_run Done r cause)
-  refusal_told Stuck cause r = absurd (not_run Stuck r cause)
-  refusal_told Limit cause r = absurd (not_run Limit r cause)
-  refusal_told Refused cause r = inl refl
-  refusal_told Usage cause r = absurd (cause.other_words r.asked)
-  refusal_told ReadFault cause r = absurd (no_read_fault before after r.input r.told r.short r.source_held cause.cause)
-  refusal_told WriteFault cause r = inr (inl refl)
-  refusal_told Memory cause r = inr (inr refl)
+  -- input that is refused is told to be
+  module _ (r : IsRefusable words source_before source_after) where
+    refusal_of_document : (document : DocumentData) (target : Target) (told : List ℕ) (own : Status) → Spells r.input document → ForDocument r.command document target told own
+        → IsWritten (sink_at target before) (sink_at target after) told own status → IsOrAbove Refused status
+    refusal_of_document document _ _ _ spells (Answer told own answers) written =
+        absurd (⊎_elim (λ why. refused_alone r.input document why.0 spells why.1)
+        (λ d. d.2 (answers_can r.command d.0 told own (subst (λ (e : DocumentData). Answers r.command e told own) (one_document r.input document d.0 spells d.1) answers))) r.refused)
+    refusal_of_document document _ _ _ spells (Refusal told cannot) written = or_above Refused Refused status before.err after.err told refl written
+    refusal_of_document document _ _ _ spells Wanting written = memory_above Refused status before.err after.err out_of_memory_text written
 
-  too_long : (o : IsOverlong words before after) (bytes : List ℕ) → IsReadWhole before.left after.left bytes → length bytes ≤ most_bytes → ⊥
-  too_long o bytes read short = let same = (read o.input o.told).0 in omega (arith, o.long, ap length same)
+    refusal_of_bytes : (target : Target) (told : List ℕ) (own : Status) → ForBytes r.command r.input target told own
+        → IsWritten (sink_at target before) (sink_at target after) told own status → IsOrAbove Refused status
+    refusal_of_bytes _ _ _ (Spelled document target told own spells has) written = refusal_of_document document target told own spells has written
+    refusal_of_bytes _ _ _ (NoDocument refused is) written = or_above Refused Refused status before.err after.err (text_text refused) refl written
+    refusal_of_bytes _ _ _ BytesWanting written = memory_above Refused status before.err after.err out_of_memory_text written
 
-  pub length_told : (status : Status) → HasCauseFor words before after status → IsOverlong words before after → IsOrAbove ReadFault status
-  length_told Done cause o = absurd (too_long o cause.bytes cause.read cause.short)
-  length_told Stuck cause o = absurd (too_long o cause.bytes cause.read cause.short)
-  length_told Limit cause o = absurd (too_long o cause.bytes cause.read cause.short)
-  length_told Refused cause o = absurd (too_long o cause.bytes cause.read cause.short)
-  length_told Usage cause o = absurd (cause.other_words o.asked)
-  length_told ReadFault cause o = inl refl
-  length_told WriteFault cause o = inr (inl refl)
-  length_told Memory cause o = inr (inr refl)
+    refusal_of_call : (target : Target) (told : List ℕ) (own : Status) → ForCall words source_before source_after target told own
+        → IsWritten (sink_at target before) (sink_at target after) told own status → IsOrAbove Refused status
+    refusal_of_call _ _ _ (Read other bytes target told own asks read short held has) written =
+        refusal_of_bytes target told own
+        (subst (λ (c : Command). ForBytes c r.input target told own) (one_command other r.command asks r.asked_for)
+        (subst (λ (b : List ℕ). ForBytes other b target told own) (read r.input r.told).0 has)) written
+    refusal_of_call _ _ _ (NoCommand none unread) written = absurd (no_command r.command r.asked_for none)
+    refusal_of_call _ _ _ (ReadFailed other asks rose) written = absurd (r.source_held rose)
+    refusal_of_call _ _ _ (TooLong other asks more gone) written = absurd (omega (arith, more r.input r.told, r.short))
+    refusal_of_call _ _ _ (ReadWanting other asks held gone) written = memory_above Refused status before.err after.err out_of_memory_text written
+
+  pub refusal_told : Writes (ForCall words source_before source_after) before after status → IsRefusable words source_before source_after → IsOrAbove Refused status
+  refusal_told w r = refusal_of_call r w.target w.text w.own w.cause w.written
+
+  -- and so is input that is too long
+  length_by : (target : Target) (told : List ℕ) (own : Status) → IsOverlong words source_before → ForCall words source_before source_after target told own
+      → IsWritten (sink_at target before) (sink_at target after) told own status → IsOrAbove ReadFault status
+  length_by _ _ _ o (Read other bytes target told own asks read short held has) written = let same = (read o.input o.told).0 in absurd (omega (arith, o.long, short, ap length same))
+  length_by _ _ _ o (NoCommand none unread) written = absurd (no_command o.command o.asked_for none)
+  length_by _ _ _ o (ReadFailed other asks rose) written = or_above ReadFault ReadFault status before.err after.err _ refl written
+  length_by _ _ _ o (TooLong other asks more gone) written = or_above ReadFault ReadFault status before.err after.err _ refl written
+  length_by _ _ _ o (ReadWanting other asks held gone) written = memory_above ReadFault status before.err after.err out_of_memory_text written
+
+  pub length_told : Writes (ForCall words source_before source_after) before after status → IsOverlong words source_before → IsOrAbove ReadFault status
+  length_told w o = length_by w.target w.text w.own o w.cause w.written

@@ -1,15 +1,3 @@
-pub mod EndLists
-pub mod OfferLemmas
-pub mod ChoiceLemmas
-pub mod Places
-pub mod EndLemmas
-pub mod PairLemmas
-pub mod CarryLemmas
-pub mod FiringLaw
-pub mod QuietLaw
-pub mod ProgressLaw
-pub mod PortLaw
-pub mod TurnLaw
-pub mod OwnerLemmas
-pub mod EndingLaw
+pub mod WordLemmas
+pub mod RefusalLaw
 pub mod CallLaw

@@ -1,198 +1,222 @@
 -- What a call of the program may answer, and what it has read and written then.
-use Rattle.std.specs.Prelude.{◌≡◌, ℕ, ◌+◌, ◌≤◌, ◌⊎◌, List, [], ◌∷◌, length, map, slice_get, Some, false, codes}
+use Rattle.std.specs.Prelude.{◌≡◌, ◌≢◌, ℕ, ◌+◌, ◌<◌, ◌≤◌, ◌⊎◌, List, length, map, take, Some, None}
 use Rattle.std.specs.declared.option.Option.{Option}
 use Rattle.std.specs.Borrow.{Bor}
 use Rattle.reo_base.specs.declared.source.Source.{Ghosts as SourceOf}
 use Rattle.reo_base.specs.declared.sink.Sink.{Ghosts as SinkOf}
 use Rattle.reo_base.specs.Faults.{Rose}
-use Rattle.reo_base.specs.Streams.{IsReadWhole, HasMoreThan, LosesFirst, IsExtended}
-use Rattle.reo_graph.specs.Paths.{IsLeast}
-use Rattle.reo_net.specs.Kind.{is_fifo}
-use Rattle.reo_net.specs.Checks.{IsChecked, IsFifoOnly}
+use Rattle.reo_base.specs.Streams.{IsReadWhole, HasMoreThan, LosesFirst, LosesAtMost, IsExtended}
+use Rattle.reo_net.specs.Checks.{IsChecked}
+use Rattle.reo_net.specs.Regions.{Automaton, IsRegion}
+use Rattle.reo_cut.specs.declared.cut.Cut.{Cut}
+use Rattle.reo_cut.specs.Cut.{IsCut}
+use Rattle.reo_product.specs.declared.table.RegionTable.{RegionTable}
 use Rattle.reo_net.specs.Refusals.{Refuses}
 use Rattle.reo_net.specs.declared.net.CheckRefusal.{CheckRefusal}
-use Rattle.reo_net.specs.declared.net.CheckRefusal.TheVariants as refusal
-use Rattle.reo_net.specs.declared.circuit.Channel.{Channel}
-use Rattle.reo_net.specs.declared.circuit.RawCircuit.{RawCircuit}
-use Rattle.reo_text.specs.Parts.{DocumentData, circuit_of}
-use Rattle.reo_text.specs.Plain.{Spells, IsRefusedAt}
+use Rattle.reo_net.specs.declared.net.CheckRefusal.TheVariants as check
+use Rattle.reo_document.specs.declared.refusal.TextRefusal.{TextRefusal}
+use Rattle.reo_document.specs.Document.{DocumentData, circuit_of}
+use Rattle.reo_document.specs.Spells.{Spells, IsRefusedAs}
 use Rattle.reo_trace.specs.declared.report.Report.{Report}
-use Rattle.reo_trace.specs.Lawful.{IsLawfulReport}
 use Rattle.reo_trace.specs.ReportText.{report_text}
+use Rattle.reo_outline.specs.Outline.{outline_text}
+use Rattle.reo_schedule.specs.Plain.{IsPlainReport}
+use Rattle.reo_session.specs.Prepared.{HasTable, AreRegionTables, IsLeastTooLarge}
+use Rattle.reo_print.specs.Canonical.{canonical_text}
+use Rattle.reo_tool.specs.declared.command.Command.{Command}
+use Rattle.reo_tool.specs.declared.command.Command.TheVariants.{Run, Show, Plan}
 use Rattle.reo_tool.specs.declared.status.Status.{Status}
-use Rattle.reo_tool.specs.declared.status.Status.TheVariants.{Done, Stuck, Limit, Refused, Usage, ReadFault, WriteFault, Memory}
+use Rattle.reo_tool.specs.declared.status.Status.TheVariants.{Done, Refused, Usage, ReadFault, WriteFault, Memory}
 use Rattle.reo_tool.specs.Status.{status_of}
-use Rattle.reo_tool.specs.FaultText.{usage_text, read_failed_text, too_long_text, out_of_memory_text, line_text, channel_text, check_text}
+use Rattle.reo_tool.specs.Words.{command_of}
+use Rattle.reo_tool.specs.FaultText.{usage_text, read_failed_text, too_long_text, out_of_memory_text, text_text, region_text, check_text}
 
--- the words are `run --plain`
-abbrev pub IsRunPlain : List (Bor (List ℕ)) → Type 0
-IsRunPlain words = map (λ word. word.now) words ≡ codes "run" ∷ codes "--plain" ∷ []
+-- what the words ask for
+abbrev pub asked : List (Bor (List ℕ)) → Option Command
+asked words = command_of (map (λ word. word.now) words)
 
 -- the most bytes of a document
 abbrev pub most_bytes : ℕ
 most_bytes = 1048576
 
--- the most steps of a run
-abbrev pub most_steps : ℕ
-most_steps = 100000
-
--- The streams of a call: what the source has left, and what the two sinks hold, where they tell it, with their faults.
-pub record Streams : Type 0 where
+-- What a source tells: what it has left, where it tells that, and its count of faults.
+pub record SourceSeen : Type 0 where
   pub left : Option (List ℕ)
-  pub source_faults : ℕ
-  pub out : Option (List ℕ)
-  pub out_faults : ℕ
-  pub err : Option (List ℕ)
-  pub err_faults : ℕ
+  pub faults : ℕ
 
--- what the three streams tell at one moment
-abbrev pub streams : {S K E : Type 0} → SourceOf S → SinkOf K → SinkOf E → S → K → E → Streams
-streams s k e source out err = record {
-  left = s.left source;
-  source_faults = s.faults source;
-  out = k.written out;
-  out_faults = k.faults out;
-  err = e.written err;
-  err_faults = e.faults err;
-}
+abbrev pub source_seen : {S : Type 0} → SourceOf S → S → SourceSeen
+source_seen s source = record { left = s.left source; faults = s.faults source }
 
--- a channel of this number is no FIFO1
-pub record IsOtherChannel (channels : List Channel) (number : ℕ) : Type 0 where
-  pub channel : Channel
-  pub found : slice_get channels number ≡ Some channel
-  pub other : is_fifo channel.kind ≡ false
+-- What a sink tells: what it holds, where it tells that, and its count of faults.
+pub record SinkSeen : Type 0 where
+  pub held : Option (List ℕ)
+  pub faults : ℕ
 
--- a document's circuit passes the checks, and has FIFO1s alone, which are what can be run so far
+abbrev pub sink_seen : {K : Type 0} → SinkOf K → K → SinkSeen
+sink_seen k sink = record { held = k.written sink; faults = k.faults sink }
+
+-- the two sinks of a call
+pub data Target : Type 0 where
+  ToOut : Target
+  ToErr : Target
+
+pub record Sinks : Type 0 where
+  pub out : SinkSeen
+  pub err : SinkSeen
+
+abbrev pub sink_at : Target → Sinks → SinkSeen
+sink_at ToOut sinks = sinks.out
+sink_at ToErr sinks = sinks.err
+
+abbrev pub other_sink : Target → Sinks → SinkSeen
+other_sink ToOut sinks = sinks.err
+other_sink ToErr sinks = sinks.out
+
+-- what the two sinks tell at one moment
+abbrev pub sinks_seen : {K E : Type 0} → SinkOf K → SinkOf E → K → E → Sinks
+sinks_seen k e out err = record { out = sink_seen k out; err = sink_seen e err }
+
+-- a sink took the whole text
+abbrev pub TakesWhole : SinkSeen → SinkSeen → List ℕ → Type 0
+TakesWhole before after text = IsExtended before.held after.held text
+
+-- its count of faults rose, and it took a front of the text alone
+pub record Breaks (before after : SinkSeen) (text : List ℕ) : Type 0 where
+  pub rose : Rose before.faults after.faults
+  pub count : ℕ
+  pub short : count < length text
+  pub front : TakesWhole before after (take count text)
+
+-- a text that was to be written: it was written whole, and its own status is told, or its write failed
+abbrev pub IsWritten : SinkSeen → SinkSeen → List ℕ → Status → Status → Type 0
+IsWritten before after text own status = ((status ≡ own) × TakesWhole before after text) ⊎ ((status ≡ WriteFault) × Breaks before after text)
+
+-- What a call has to write: which text, to which sink, and the status that goes with it. That was written, and the other sink is as it was.
+pub record Writes (HasToWrite : Target → List ℕ → Status → Type 0) (before after : Sinks) (status : Status) : Type 0 where
+  pub target : Target
+  pub text : List ℕ
+  pub own : Status
+  pub cause : HasToWrite target text own
+  pub written : IsWritten (sink_at target before) (sink_at target after) text own status
+  pub quiet : other_sink target after ≡ other_sink target before
+
+-- a document's circuit passes the checks, and none of its regions is too large
 pub record IsAccepted (document : DocumentData) : Type 0 where
   pub checked : IsChecked (circuit_of document)
-  pub only : IsFifoOnly (circuit_of document)
+  pub tabled : (root : Automaton) → IsRegion (circuit_of document) root → HasTable (circuit_of document) root
 
--- The report of a document: it is lawful for the document and the limit, with no step past the limit, its whole text was
--- written to the one sink, nothing to the other, and the status is its ending.
-pub record IsReported (document : DocumentData) (before after : Streams) (status : Status) : Type 0 where
+-- the text is that of the plain report of the document and the limit, and the status is its ending
+pub record IsReportOf (limit : ℕ) (document : DocumentData) (text : List ℕ) (status : Status) : Type 0 where
+  pub accepted : IsAccepted document
   pub report : Report
-  pub lawful : IsLawfulReport (circuit_of document) document.texts document.scripts most_steps report
-  pub within : length report.steps ≤ most_steps
-  pub written : IsExtended before.out after.out (report_text (circuit_of document) document.nodes document.texts document.people report)
-  pub quiet : after.err ≡ before.err
+  pub plain : IsPlainReport (circuit_of document) document.texts document.scripts limit report
+  pub told : text ≡ report_text (circuit_of document) document.nodes document.texts document.people report
   pub ending : status ≡ status_of report.ending
 
--- The source was read to its end, its bytes spell a document that is accepted, and this is its report.
-pub record IsRun (words : List (Bor (List ℕ))) (before after : Streams) (status : Status) : Type 0 where
-  pub asked : IsRunPlain words
-  pub bytes : List ℕ
-  pub read : IsReadWhole before.left after.left bytes
-  pub short : length bytes ≤ most_bytes
-  pub document : DocumentData
-  pub spelled : Spells bytes document
+-- the text tells the regions of the document's circuit with their tables, its buffers and its ports
+pub record IsOutlineOf (document : DocumentData) (text : List ℕ) : Type 0 where
   pub accepted : IsAccepted document
-  pub reported : IsReported document before after status
+  pub cut : Cut
+  pub is_cut : IsCut (circuit_of document) cut
+  pub tables : List RegionTable
+  pub are_tables : AreRegionTables (circuit_of document) cut tables
+  pub told : text ≡ outline_text (circuit_of document) document.nodes cut tables
 
--- why the bytes are refused, and the text for it
-pub data RefusedFor (bytes text : List ℕ) : Type 0 where
-  -- they leave the plain form at this line
-  ForLine : (line : ℕ) → IsRefusedAt bytes line → text ≡ line_text line → RefusedFor bytes text
-  -- the checks refuse the circuit of the document that they spell
-  ForCircuit : (document : DocumentData) (refused : CheckRefusal) → Spells bytes document → Refuses (circuit_of document) refused → (refused ≡ refusal.NoMemory → ⊥) → text ≡ check_text document.nodes refused → RefusedFor bytes text
-  -- the checks accept that circuit, but it has a channel that is no FIFO1; the least is told, by its number from 1
-  ForChannel : (document : DocumentData) (number : ℕ) → Spells bytes document → IsChecked (circuit_of document) → IsLeast (IsOtherChannel (circuit_of document).channels) (Some number) → text ≡ channel_text (number + 1) → RefusedFor bytes text
+-- why a document can not be run, and the text for it
+pub data IsNotRun (document : DocumentData) (text : List ℕ) : Type 0 where
+  -- the checks refuse its circuit
+  ForCircuit : (refused : CheckRefusal) → Refuses (circuit_of document) refused → refused ≢ check.NoMemory → text ≡ check_text document.nodes refused → IsNotRun document text
+  -- they accept it, but it has a region that is too large; the least is told, by its number from 1
+  ForRegion : (region count : ℕ) → IsChecked (circuit_of document) → IsLeastTooLarge (circuit_of document) region count → text ≡ region_text (region + 1) count → IsNotRun document text
 
--- The source was read to its end, its bytes are refused, and the one text for that was written.
-pub record IsRefusedCall (words : List (Bor (List ℕ))) (before after : Streams) : Type 0 where
-  pub asked : IsRunPlain words
-  pub bytes : List ℕ
-  pub read : IsReadWhole before.left after.left bytes
-  pub short : length bytes ≤ most_bytes
-  pub text : List ℕ
-  pub cause : RefusedFor bytes text
-  pub quiet : after.out ≡ before.out
-  pub told : IsExtended before.err after.err text
+-- what a command answers for a document
+abbrev pub Answers : Command → DocumentData → List ℕ → Status → Type 0
+Answers (Run limit) document text status = IsReportOf limit document text status
+Answers Show document text status = (text ≡ canonical_text document) × (status ≡ Done)
+Answers Plan document text status = IsOutlineOf document text × (status ≡ Done)
 
--- The words are others, so nothing was read, and the usage was written.
-pub record IsUsageCall (words : List (Bor (List ℕ))) (before after : Streams) : Type 0 where
-  pub other_words : IsRunPlain words → ⊥
-  pub unread : after.left ≡ before.left
-  pub quiet : after.out ≡ before.out
-  pub told : IsExtended before.err after.err usage_text
+-- for which documents it answers
+abbrev pub CanAnswer : Command → DocumentData → Type 0
+CanAnswer (Run limit) document = IsAccepted document
+CanAnswer Show document = Unit {0}
+CanAnswer Plan document = IsAccepted document
 
--- a read failed, or byte 1,048,577 was taken; each has its text
-pub data ReadFaultFor (before after : Streams) : Type 0 where
-  ForFault : Rose before.source_faults after.source_faults → IsExtended before.err after.err read_failed_text → ReadFaultFor before after
-  ForLength : HasMoreThan before.left most_bytes → LosesFirst before.left after.left (most_bytes + 1) → IsExtended before.err after.err too_long_text → ReadFaultFor before after
+-- why it does not for others, and the text for it
+abbrev pub CannotAnswer : Command → DocumentData → List ℕ → Type 0
+CannotAnswer (Run limit) document text = IsNotRun document text
+CannotAnswer Show document text = ⊥
+CannotAnswer Plan document text = IsNotRun document text
 
-pub record IsReadFaultCall (words : List (Bor (List ℕ))) (before after : Streams) : Type 0 where
-  pub asked : IsRunPlain words
-  pub cause : ReadFaultFor before after
-  pub quiet : after.out ≡ before.out
+-- what a command has to write for a document; want of memory needs no cause
+pub data ForDocument (command : Command) (document : DocumentData) : Target → List ℕ → Status → Type 0 where
+  Answer : (text : List ℕ) (status : Status) → Answers command document text status → ForDocument command document ToOut text status
+  Refusal : (text : List ℕ) → CannotAnswer command document text → ForDocument command document ToErr text Refused
+  Wanting : ForDocument command document ToErr out_of_memory_text Memory
 
--- a sink's count rose
-abbrev pub SinkRose : Streams → Streams → Type 0
-SinkRose before after = Rose before.out_faults after.out_faults ⊎ Rose before.err_faults after.err_faults
+-- what it has to write for bytes
+pub data ForBytes (command : Command) (bytes : List ℕ) : Target → List ℕ → Status → Type 0 where
+  -- they spell a document
+  Spelled : (document : DocumentData) (target : Target) (text : List ℕ) (status : Status) → Spells bytes document → ForDocument command document target text status → ForBytes command bytes target text status
+  -- they are no document, for this reason
+  NoDocument : (refused : TextRefusal) → IsRefusedAs bytes refused → ForBytes command bytes ToErr (text_text refused) Refused
+  BytesWanting : ForBytes command bytes ToErr out_of_memory_text Memory
 
--- Want of memory needs no cause; nothing was written to the output, and the text for it was.
-pub record IsMemoryCall (words : List (Bor (List ℕ))) (before after : Streams) : Type 0 where
-  pub asked : IsRunPlain words
-  pub quiet : after.out ≡ before.out
-  pub told : IsExtended before.err after.err out_of_memory_text
+-- What a call has to write, by its words and what became of its source.
+pub data ForCall (words : List (Bor (List ℕ))) (before after : SourceSeen) : Target → List ℕ → Status → Type 0 where
+  -- a command was asked for, and the source was read to its end
+  Read : (command : Command) (bytes : List ℕ) (target : Target) (text : List ℕ) (status : Status) → asked words ≡ Some command → IsReadWhole before.left after.left bytes
+      → length bytes ≤ most_bytes → after.faults ≡ before.faults → ForBytes command bytes target text status → ForCall words before after target text status
+  -- none was, and nothing was read
+  NoCommand : asked words ≡ None → after ≡ before → ForCall words before after ToErr usage_text Usage
+  -- a read failed
+  ReadFailed : (command : Command) → asked words ≡ Some command → Rose before.faults after.faults → ForCall words before after ToErr read_failed_text ReadFault
+  -- byte 1,048,577 was taken
+  TooLong : (command : Command) → asked words ≡ Some command → HasMoreThan before.left most_bytes → LosesFirst before.left after.left (most_bytes + 1) → ForCall words before after ToErr too_long_text ReadFault
+  -- memory was wanting while the source was read: no read failed, and no more bytes were taken than a document has
+  ReadWanting : (command : Command) → asked words ≡ Some command → after.faults ≡ before.faults → LosesAtMost before.left after.left most_bytes → ForCall words before after ToErr out_of_memory_text Memory
 
--- the cause of each status
-abbrev pub HasCauseFor : List (Bor (List ℕ)) → Streams → Streams → Status → Type 0
-HasCauseFor words before after Done = IsRun words before after Done
-HasCauseFor words before after Stuck = IsRun words before after Stuck
-HasCauseFor words before after Limit = IsRun words before after Limit
-HasCauseFor words before after Refused = IsRefusedCall words before after
-HasCauseFor words before after Usage = IsUsageCall words before after
-HasCauseFor words before after ReadFault = IsReadFaultCall words before after
-HasCauseFor words before after WriteFault = SinkRose before after
-HasCauseFor words before after Memory = IsMemoryCall words before after
-
--- the write succeeded, and the status stands, or it failed
-abbrev pub Told : Status → Option (List ℕ) → Option (List ℕ) → ℕ → ℕ → List ℕ → Status → Type 0
-Told status old new before now text result =
-    ((result ≡ status) × IsExtended old new text) ⊎ ((result ≡ WriteFault) × Rose before now)
-
--- the same, or memory was wanting, and its text was written
-abbrev pub ToldOrMemory : Status → Option (List ℕ) → Option (List ℕ) → ℕ → ℕ → List ℕ → Status → Type 0
-ToldOrMemory status old new before now text result =
-    ((result ≡ status) × IsExtended old new text) ⊎ (((result ≡ WriteFault) × Rose before now) ⊎ ((result ≡ Memory) × IsExtended old new out_of_memory_text))
-
--- the report was written whole, or a write failed, or memory was wanting and nothing was written to the output
-abbrev pub WrittenOut : RawCircuit → DocumentData → Report → Option (List ℕ) → Option (List ℕ) → ℕ → ℕ → Option (List ℕ) → Option (List ℕ) → ℕ → ℕ → Status → Type 0
-WrittenOut c document report old new before now err_old err_new err_before err_now result =
-    ((result ≡ status_of report.ending) × IsExtended old new (report_text c document.nodes document.texts document.people report)) ⊎ (((result ≡ WriteFault) × (Rose before now ⊎ Rose err_before err_now)) ⊎ ((result ≡ Memory) × (new ≡ old) × IsExtended err_old err_new out_of_memory_text))
-
--- the words ask for a run, the input spells an accepted document, no stream fails, and memory suffices
-pub record IsPromised (words : List (Bor (List ℕ))) (before after : Streams) (document : DocumentData) (status : Status) : Type 0 where
-  pub asked : IsRunPlain words
+-- the words ask for a command, the input spells a document for which it answers, no stream fails, and memory suffices
+pub record IsPromised (words : List (Bor (List ℕ))) (source_before source_after : SourceSeen) (before after : Sinks) (command : Command) (document : DocumentData) (status : Status) : Type 0 where
+  pub asked_for : asked words ≡ Some command
   pub input : List ℕ
-  pub told : before.left ≡ Some input
+  pub told : source_before.left ≡ Some input
   pub short : length input ≤ most_bytes
   pub spelled : Spells input document
-  pub accepted : IsAccepted document
-  pub source_held : Rose before.source_faults after.source_faults → ⊥
-  pub sinks_held : SinkRose before after → ⊥
-  pub memory : status ≡ Memory → ⊥
+  pub can : CanAnswer command document
+  pub source_held : Rose source_before.faults source_after.faults → ⊥
+  pub sinks_held : (target : Target) → Rose (sink_at target before).faults (sink_at target after).faults → ⊥
+  pub memory : status ≢ Memory
 
--- where that is so, the whole report of the document is written, and it is lawful
-abbrev pub KeepsItsPromise : List (Bor (List ℕ)) → Streams → Streams → Status → Type 0
-KeepsItsPromise words before after status = (document : DocumentData) → IsPromised words before after document status → IsReported document before after status
+-- the command's answer for the document was written whole, nothing to the other sink, and its status was told
+pub record IsAnswered (command : Command) (document : DocumentData) (before after : Sinks) (status : Status) : Type 0 where
+  pub text : List ℕ
+  pub answer : Answers command document text status
+  pub written : TakesWhole before.out after.out text
+  pub quiet : after.err ≡ before.err
 
--- bytes that are refused: they leave the form, or the checks refuse the circuit of the document that they spell
-abbrev pub AreRefused : List ℕ → Type 0
-AreRefused input = ((line : ℕ) × IsRefusedAt input line) ⊎ ((document : DocumentData) × Spells input document × (IsAccepted document → ⊥))
+-- what is promised is done
+abbrev pub KeepsItsPromise : List (Bor (List ℕ)) → SourceSeen → SourceSeen → Sinks → Sinks → Status → Type 0
+KeepsItsPromise words source_before source_after before after status =
+    (command : Command) (document : DocumentData) → IsPromised words source_before source_after before after command document status → IsAnswered command document before after status
+
+-- bytes that are refused: they are no document, or one for which the command does not answer
+abbrev pub AreRefused : Command → List ℕ → Type 0
+AreRefused command input = ((refused : TextRefusal) × IsRefusedAs input refused) ⊎ ((document : DocumentData) × Spells input document × (CanAnswer command document → ⊥))
 
 -- the input is refused, and no read fails
-pub record IsRefusable (words : List (Bor (List ℕ))) (before after : Streams) : Type 0 where
-  pub asked : IsRunPlain words
+pub record IsRefusable (words : List (Bor (List ℕ))) (before after : SourceSeen) : Type 0 where
+  pub command : Command
+  pub asked_for : asked words ≡ Some command
   pub input : List ℕ
   pub told : before.left ≡ Some input
   pub short : length input ≤ most_bytes
-  pub refused : AreRefused input
-  pub source_held : Rose before.source_faults after.source_faults → ⊥
+  pub refused : AreRefused command input
+  pub source_held : Rose before.faults after.faults → ⊥
 
 -- the input is longer than a document may be
-pub record IsOverlong (words : List (Bor (List ℕ))) (before after : Streams) : Type 0 where
-  pub asked : IsRunPlain words
+pub record IsOverlong (words : List (Bor (List ℕ))) (before : SourceSeen) : Type 0 where
+  pub command : Command
+  pub asked_for : asked words ≡ Some command
   pub input : List ℕ
   pub told : before.left ≡ Some input
   pub long : most_bytes + 1 ≤ length input
@@ -200,3 +224,7 @@ pub record IsOverlong (words : List (Bor (List ℕ))) (before after : Streams) :
 -- this status, or one that stands above it: a write failed, or memory was wanting
 abbrev pub IsOrAbove : Status → Status → Type 0
 IsOrAbove status result = (result ≡ status) ⊎ ((result ≡ WriteFault) ⊎ (result ≡ Memory))
+
+-- a text for standard error was told, or want of memory in its place
+abbrev pub IsTold : SinkSeen → SinkSeen → List ℕ → Status → Status → Type 0
+IsTold before after text own status = IsWritten before after text own status ⊎ IsWritten before after out_of_memory_text Memory status

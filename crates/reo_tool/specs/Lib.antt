@@ -1,12 +1,4 @@
-pub mod Ends
-pub mod Offers
-pub mod Owners
-pub mod Choice
-pub mod Firing
-pub mod Progress
-pub mod Schedule
-pub mod UnderWay
-pub mod Board
 pub mod Status
+pub mod Words
 pub mod FaultText
 pub mod Call

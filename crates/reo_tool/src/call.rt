@@ -1,25 +1,24 @@
 //! The call that does all that the program does.
-ghost use Rattle.std.specs.Prelude.{◌≡◌, ◌+◌, ◌<◌, ◌^◌, ◌≤◌, ◌⊎◌, ◌↔◌, ℕ, List, length, IsTrue, IfOk, IfErr, OnOk};
-ghost use Rattle.std.specs.declared.option.Option.{Option};
-ghost use Rattle.std.specs.Borrow.{Bor};
-ghost use Rattle.reo_base.specs.Streams.{IsReadWhole};
-ghost use Rattle.reo_graph.specs.Paths.{IsLeast};
-ghost use Rattle.reo_net.specs.Checks.{IsChecked, IsFifoOnly};
-ghost use Rattle.reo_net.specs.Refusals.{Refuses};
-ghost use Rattle.reo_text.specs.Parts.{circuit_of};
-ghost use Rattle.reo_trace.specs.Lawful.{IsLawfulReport};
+ghost use Rattle.std.specs.Prelude.{◌≡◌, ◌+◌, ◌<◌, ◌^◌, ◌≤◌, ◌⊎◌, ◌↔◌, length, IsTrue, IfOk, IfErr, OnOk, None};
+ghost use Rattle.reo_document.specs.Document.{circuit_of};
+ghost use Rattle.reo_schedule.specs.Plain.{IsPlainReport};
+ghost use Rattle.reo_session.specs.Prepared.{Declines, IsPrepared};
+ghost use Rattle.reo_outline.specs.Outline.{outline_text};
+ghost use Rattle.reo_trace.specs.ReportText.{report_text};
 ghost use Rattle.reo_tool.specs.Status.{status_of};
-ghost use Rattle.reo_tool.specs.FaultText.{line_text, channel_text, check_text, out_of_memory_text};
-ghost use Rattle.reo_tool.specs.Call.{IsRunPlain, IsOtherChannel, streams, most_steps, HasCauseFor, most_bytes, WrittenOut, Told, ToldOrMemory, KeepsItsPromise, IsRefusable, IsOverlong, IsOrAbove};
+ghost use Rattle.reo_tool.specs.Words.{HasRoom};
+ghost use Rattle.reo_tool.specs.FaultText.{text_text, session_text, out_of_memory_text};
+ghost use Rattle.reo_tool.specs.Call.{asked, most_bytes, source_seen, sink_seen, sinks_seen, IsWritten, IsTold, Writes, ForDocument, ForBytes, ForCall, KeepsItsPromise, IsRefusable, IsOverlong, IsOrAbove};
 
-use crate::fault_text::{
-    OUT_OF_MEMORY, READ_FAILED, TOO_LONG, USAGE, channel_text, check_text, line_text,
-};
-use crate::schedule::run;
+use crate::command::{Command, command_of};
+use crate::fault_text::{OUT_OF_MEMORY, READ_FAILED, TOO_LONG, USAGE, session_text, text_text};
 use crate::status::{Status, unless_fault};
 use reo_base::{ReadRefusal, Sink, Source, read_all, write_whole};
-use reo_net::{Channel, CheckRefusal, Net, check};
-use reo_text::{Document, TextRefusal, read_document};
+use reo_document::{Document, TextRefusal, read_document};
+use reo_net::Net;
+use reo_outline::outline_of;
+use reo_print::print_document;
+use reo_session::{Prepared, SessionRefusal, plain_session, prepare};
 use reo_trace::{Report, WriteRefusal, write_report};
 use reo_value::Lexicon;
 use std::alloc::{AllocError, Global};
@@ -27,111 +26,106 @@ use std::alloc::{AllocError, Global};
 /// The most bytes of a document.
 const MOST_BYTES: usize = 1_048_576;
 
-/// The most steps of a run.
-const MOST_STEPS: u64 = 100_000;
-
-/// Whether the words are `run --plain`.
-fn is_run_plain(words: &[&str]) -> bool
-    ensures { IsTrue result ↔ IsRunPlain words.now }
+/// What a document is run by: its net, the cut of it and the tables of its regions.
+pub fn prepare_document(alloc: Global, document: &Document) -> Result<Prepared, SessionRefusal>
+    ensures prepared { IfOk result (IsPrepared (circuit_of document.now)) }
+    ensures refused { IfErr result (Declines (circuit_of document.now)) }
 {
-    match words {
-        [command, flag] => *command == "run" && *flag == "--plain",
-        _ => false,
-    }
+    let raw = document.circuit(alloc)?;
+    prepare(alloc, &raw)
 }
 
-/// The net of a document's circuit, where the checks accept it.
-pub fn checked(alloc: Global, document: &Document) -> Result<Net, CheckRefusal>
-    ensures net { IfOk result (λ net. net ≡ circuit_of document.now) }
-    ensures accepted { OnOk result (IsChecked (circuit_of document.now)) }
-    ensures refused { IfErr result (Refuses (circuit_of document.now)) }
+/// Runs a document's scripts.
+fn report_of(
+    alloc: Global,
+    document: &Document,
+    prepared: &Prepared,
+    limit: u64,
+) -> Result<Report, AllocError>
+    requires prepared { IsPrepared (circuit_of document.now) prepared.now }
+    requires limit { (1 ≤ limit) × (limit ≤ 100000) }
+    ensures { IfOk result (IsPlainReport (circuit_of document.now) document.now.texts document.now.scripts limit) }
 {
-    let raw = document.circuit(alloc).map_err(|_| CheckRefusal::NoMemory)?;
-    check(alloc, &raw)
+    plain_session(alloc, prepared, document.texts(), document.scripts(), limit)
 }
 
-/// Runs a document's scripts on its net.
-fn report_of(alloc: Global, document: &Document, net: &Net) -> Result<Report, AllocError>
-    requires net { net.now ≡ circuit_of document.now }
-    requires only { IsFifoOnly net.now }
-    ensures lawful { IfOk result (IsLawfulReport (circuit_of document.now) document.now.texts document.now.scripts most_steps) }
-    ensures within { IfOk result (λ report. length report.steps ≤ most_steps) }
+/// The text that tells a document's regions.
+fn outline(alloc: Global, document: &Document, prepared: &Prepared) -> Result<Vec<u8>, AllocError>
+    requires { IsPrepared (circuit_of document.now) prepared.now }
+    ensures { IfOk result (λ text. text.items ≡ outline_text (circuit_of document.now) document.now.nodes prepared.now.cut prepared.now.tables) }
 {
-    run(alloc, net, document.texts(), document.scripts(), MOST_STEPS)
+    let Prepared { net, cut, tables } = prepared;
+    let _ = net.nodes();
+    outline_of(alloc, net, document.nodes(), cut, tables.as_slice())
 }
 
-/// Writes a line and gives the status, or the status of a failed write.
-fn tell<E: Sink>(err: &mut E, text: &[u8], status: Status) -> Status
-    ensures told { Told status (E.written err.old) (E.written err.new) (E.faults err.old) (E.faults err.new) text.now result }
+/// Writes a text and gives the status, or the status of a failed write.
+fn tell<E: Sink>(sink: &mut E, text: &[u8], status: Status) -> Status
+    ensures told { IsWritten (sink_seen E.Sink sink.old) (sink_seen E.Sink sink.new) text.now status result }
 {
-    let written = write_whole(err, text);
+    let written = write_whole(sink, text);
     unless_fault(written, status)
 }
 
 /// Tells that memory is wanting.
 pub fn tell_memory<E: Sink>(err: &mut E) -> Status
-    ensures told { Told Status.Memory (E.written err.old) (E.written err.new) (E.faults err.old) (E.faults err.new) out_of_memory_text result }
+    ensures told { IsWritten (sink_seen E.Sink err.old) (sink_seen E.Sink err.new) out_of_memory_text Status.Memory result }
 {
     tell(err, OUT_OF_MEMORY, Status::Memory)
 }
 
-/// Tells of a line that leaves the plain form.
-fn tell_line<E: Sink>(alloc: Global, err: &mut E, line: u32) -> Status
-    ensures told { ToldOrMemory Status.Refused (E.written err.old) (E.written err.new) (E.faults err.old) (E.faults err.new) (line_text line) result }
-{
-    match line_text(alloc, line) {
-        Ok(text) => tell(err, text.as_bytes(), Status::Refused),
-        Err(_) => tell_memory(err),
-    }
-}
-
-fn is_want_of_memory(refusal: CheckRefusal) -> bool
-    ensures { IsTrue result ↔ (refusal ≡ CheckRefusal.NoMemory) }
+fn is_memory(refusal: TextRefusal) -> bool
+    ensures { IsTrue result ↔ (refusal ≡ TextRefusal.NoMemory) }
 {
     match refusal {
-        CheckRefusal::NoMemory => true,
+        TextRefusal::NoMemory => true,
         _ => false,
     }
 }
 
-/// Tells why a circuit is refused.
-fn tell_circuit<E: Sink>(
+/// Tells why bytes are no document.
+fn tell_text<E: Sink>(alloc: Global, err: &mut E, refusal: TextRefusal) -> Status
+    ensures told { IsTold (sink_seen E.Sink err.old) (sink_seen E.Sink err.new) (text_text refusal) Status.Refused result }
+    ensures memory { refusal ≡ TextRefusal.NoMemory → IsWritten (sink_seen E.Sink err.old) (sink_seen E.Sink err.new) out_of_memory_text Status.Memory result }
+{
+    if is_memory(refusal) {
+        return tell_memory(err);
+    }
+    match text_text(alloc, refusal) {
+        Ok(text) => tell(err, text.as_bytes(), Status::Refused),
+        Err(_) => tell_memory(err),
+    }
+}
+
+fn is_want_of_memory(refusal: SessionRefusal) -> bool
+    ensures { IsTrue result ↔ (refusal ≡ SessionRefusal.NoMemory) }
+{
+    match refusal {
+        SessionRefusal::NoMemory => true,
+        _ => false,
+    }
+}
+
+/// Tells why a document can not be run.
+fn tell_session<E: Sink>(
     alloc: Global,
     err: &mut E,
     nodes: &Lexicon,
-    refusal: CheckRefusal,
+    refusal: SessionRefusal,
 ) -> Status
-    ensures told { ToldOrMemory Status.Refused (E.written err.old) (E.written err.new) (E.faults err.old) (E.faults err.new) (check_text nodes.now refusal) result }
-    ensures memory { refusal ≡ CheckRefusal.NoMemory → result ≡ Status.Refused → ⊥ }
+    ensures told { IsTold (sink_seen E.Sink err.old) (sink_seen E.Sink err.new) (session_text nodes.now refusal) Status.Refused result }
+    ensures memory { refusal ≡ SessionRefusal.NoMemory → IsWritten (sink_seen E.Sink err.old) (sink_seen E.Sink err.new) out_of_memory_text Status.Memory result }
 {
     if is_want_of_memory(refusal) {
         return tell_memory(err);
     }
-    match check_text(alloc, nodes, refusal) {
+    match session_text(alloc, nodes, refusal) {
         Ok(text) => tell(err, text.as_bytes(), Status::Refused),
         Err(_) => tell_memory(err),
     }
 }
 
-/// The least channel that is no FIFO1.
-fn other_channel(channels: &[Channel]) -> Option<usize>
-    ensures { IsLeast (IsOtherChannel channels.now) result }
-{
-    channels.iter().position(|channel| !channel.kind.is_fifo())
-}
-
-/// Tells of a channel that can not be run yet, by its number from 1.
-fn tell_channel<E: Sink>(alloc: Global, err: &mut E, number: usize) -> Status
-    requires { number < 2 ^ 32 }
-    ensures told { ToldOrMemory Status.Refused (E.written err.old) (E.written err.new) (E.faults err.old) (E.faults err.new) (channel_text (number + 1)) result }
-{
-    match channel_text(alloc, number + 1) {
-        Ok(text) => tell(err, text.as_bytes(), Status::Refused),
-        Err(_) => tell_memory(err),
-    }
-}
-
-/// Writes the report of a document, and gives the status of its ending.
+/// Writes the report of a document, and gives the status of its ending; or tells that memory is wanting.
 fn write_out<K: Sink, E: Sink>(
     alloc: Global,
     out: &mut K,
@@ -141,8 +135,7 @@ fn write_out<K: Sink, E: Sink>(
     report: &Report,
 ) -> Status
     requires { net.now ≡ circuit_of document.now }
-    ensures written { WrittenOut (circuit_of document.now) document.now report.now (K.written out.old) (K.written out.new) (K.faults out.old) (K.faults out.new) (E.written err.old) (E.written err.new) (E.faults err.old) (E.faults err.new) result }
-    ensures err { result ≡ status_of report.now.ending → err.new ≡ err.old }
+    ensures written { (IsWritten (sink_seen K.Sink out.old) (sink_seen K.Sink out.new) (report_text (circuit_of document.now) document.now.nodes document.now.texts document.now.people report.now) (status_of report.now.ending) result × (err.new ≡ err.old)) ⊎ (IsWritten (sink_seen E.Sink err.old) (sink_seen E.Sink err.new) out_of_memory_text Status.Memory result × (out.new ≡ out.old)) }
 {
     match write_report(
         alloc,
@@ -159,28 +152,93 @@ fn write_out<K: Sink, E: Sink>(
     }
 }
 
-/// Runs the document that the bytes spell.
-fn run_document<K: Sink, E: Sink>(alloc: Global, bytes: &[u8], out: &mut K, err: &mut E) -> Status
-    requires { length bytes.now ≤ most_bytes }
-    ensures cause { (words : List (Bor (List ℕ))) (left rest : Option (List ℕ)) (before now : ℕ) → IsRunPlain words → IsReadWhole left rest bytes.now → HasCauseFor words
-        (record { left = left; source_faults = before; out = K.written out.old; out_faults = K.faults out.old; err = E.written err.old; err_faults = E.faults err.old })
-        (record { left = rest; source_faults = now; out = K.written out.new; out_faults = K.faults out.new; err = E.written err.new; err_faults = E.faults err.new }) result }
+/// Runs a document with a limit on its steps.
+fn run_document<K: Sink, E: Sink>(
+    alloc: Global,
+    limit: u64,
+    document: &Document,
+    out: &mut K,
+    err: &mut E,
+) -> Status
+    requires { (1 ≤ limit) × (limit ≤ 100000) }
+    ensures { Writes (ForDocument (Command.Run limit) document.now) (sinks_seen K.Sink E.Sink out.old err.old) (sinks_seen K.Sink E.Sink out.new err.new) result }
 {
-    let document = match read_document(alloc, bytes) {
-        Ok(document) => document,
-        Err(TextRefusal::NotBuilt(line)) => return tell_line(alloc, err, line),
-        Err(TextRefusal::NoMemory) => return tell_memory(err),
+    let prepared = match prepare_document(alloc, document) {
+        Ok(prepared) => prepared,
+        Err(refusal) => return tell_session(alloc, err, document.nodes(), refusal),
     };
-    let net = match checked(alloc, &document) {
-        Ok(net) => net,
-        Err(refusal) => return tell_circuit(alloc, err, document.nodes(), refusal),
-    };
-    if let Some(number) = other_channel(net.channels()) {
-        return tell_channel(alloc, err, number);
-    }
-    match report_of(alloc, &document, &net) {
-        Ok(report) => write_out(alloc, out, err, &document, &net, &report),
+    match report_of(alloc, document, &prepared, limit) {
+        Ok(report) => write_out(alloc, out, err, document, &prepared.net, &report),
         Err(_) => tell_memory(err),
+    }
+}
+
+/// Tells the regions of a document.
+fn plan_document<K: Sink, E: Sink>(
+    alloc: Global,
+    document: &Document,
+    out: &mut K,
+    err: &mut E,
+) -> Status
+    ensures { Writes (ForDocument Command.Plan document.now) (sinks_seen K.Sink E.Sink out.old err.old) (sinks_seen K.Sink E.Sink out.new err.new) result }
+{
+    let prepared = match prepare_document(alloc, document) {
+        Ok(prepared) => prepared,
+        Err(refusal) => return tell_session(alloc, err, document.nodes(), refusal),
+    };
+    match outline(alloc, document, &prepared) {
+        Ok(text) => tell(out, text.as_slice(), Status::Done),
+        Err(_) => tell_memory(err),
+    }
+}
+
+/// Shows a document.
+fn show_document<K: Sink, E: Sink>(
+    alloc: Global,
+    document: &Document,
+    out: &mut K,
+    err: &mut E,
+) -> Status
+    ensures { Writes (ForDocument Command.Show document.now) (sinks_seen K.Sink E.Sink out.old err.old) (sinks_seen K.Sink E.Sink out.new err.new) result }
+{
+    match print_document(alloc, document) {
+        Ok(text) => tell(out, text.as_slice(), Status::Done),
+        Err(_) => tell_memory(err),
+    }
+}
+
+fn answer_document<K: Sink, E: Sink>(
+    alloc: Global,
+    command: Command,
+    document: &Document,
+    out: &mut K,
+    err: &mut E,
+) -> Status
+    requires { HasRoom command }
+    ensures { Writes (ForDocument command document.now) (sinks_seen K.Sink E.Sink out.old err.old) (sinks_seen K.Sink E.Sink out.new err.new) result }
+{
+    match command {
+        Command::Run(limit) => run_document(alloc, limit, document, out, err),
+        Command::Show => show_document(alloc, document, out, err),
+        Command::Plan => plan_document(alloc, document, out, err),
+    }
+}
+
+/// Does a command with the bytes that were read.
+fn answer_bytes<K: Sink, E: Sink>(
+    alloc: Global,
+    command: Command,
+    bytes: &[u8],
+    out: &mut K,
+    err: &mut E,
+) -> Status
+    requires room { HasRoom command }
+    requires short { length bytes.now ≤ most_bytes }
+    ensures { Writes (ForBytes command bytes.now) (sinks_seen K.Sink E.Sink out.old err.old) (sinks_seen K.Sink E.Sink out.new err.new) result }
+{
+    match read_document(alloc, bytes) {
+        Ok(document) => answer_document(alloc, command, &document, out, err),
+        Err(refusal) => tell_text(alloc, err, refusal),
     }
 }
 
@@ -192,24 +250,24 @@ fn answer<S: Source, K: Sink, E: Sink>(
     out: &mut K,
     err: &mut E,
 ) -> Status
-    ensures cause { HasCauseFor words.now (streams S.Source K.Sink E.Sink source.old out.old err.old) (streams S.Source K.Sink E.Sink source.new out.new err.new) result }
-    ensures unread { (IsRunPlain words.now → ⊥) → source.new ≡ source.old }
+    ensures cause { Writes (ForCall words.now (source_seen S.Source source.old) (source_seen S.Source source.new)) (sinks_seen K.Sink E.Sink out.old err.old) (sinks_seen K.Sink E.Sink out.new err.new) result }
+    ensures unread { asked words.now ≡ None → source.new ≡ source.old }
 {
-    if !is_run_plain(words) {
+    let Some(command) = command_of(words) else {
         return tell(err, USAGE, Status::Usage);
-    }
+    };
     match read_all(alloc, source, MOST_BYTES) {
-        Ok(bytes) => run_document(alloc, bytes.as_slice(), out, err),
+        Ok(bytes) => answer_bytes(alloc, command, bytes.as_slice(), out, err),
         Err(ReadRefusal::Fault) => tell(err, READ_FAILED, Status::ReadFault),
         Err(ReadRefusal::TooLong) => tell(err, TOO_LONG, Status::ReadFault),
         Err(ReadRefusal::NoMemory) => tell_memory(err),
     }
 }
 
-/// Does all that the program does with `run --plain`, on one thread: reads the document from the source, runs it and
-/// writes its report to `out`. A refusal, a failed or overlong read, other words and want of memory are told in one line
-/// to `err`; of a failed write only the status tells. It needs no threads, never waits, and returns if the streams' own
-/// calls do.
+/// Does all that the program does on one thread, for `run --plain` with or without `--limit N`, for `show` and for `plan`: reads a
+/// document from the source, runs it and writes its report to `out`, or writes its canonical text, or tells its regions. A refusal, a failed or overlong read,
+/// other words and want of memory are told in one line to `err`; of a failed write only the status tells. It needs no threads,
+/// never waits, and returns if the streams' own calls do.
 pub fn plain_call<S: Source, K: Sink, E: Sink>(
     alloc: Global,
     words: &[&str],
@@ -217,17 +275,17 @@ pub fn plain_call<S: Source, K: Sink, E: Sink>(
     out: &mut K,
     err: &mut E,
 ) -> Status
-    // Each status has its cause.
-    ensures cause { HasCauseFor words.now (streams S.Source K.Sink E.Sink source.old out.old err.old) (streams S.Source K.Sink E.Sink source.new out.new err.new) result }
+    // There is a cause for what is written and for the status.
+    ensures cause { Writes (ForCall words.now (source_seen S.Source source.old) (source_seen S.Source source.new)) (sinks_seen K.Sink E.Sink out.old err.old) (sinks_seen K.Sink E.Sink out.new err.new) result }
 
-    // The report of an accepted document is lawful, and is written whole.
-    ensures lawful { KeepsItsPromise words.now (streams S.Source K.Sink E.Sink source.old out.old err.old) (streams S.Source K.Sink E.Sink source.new out.new err.new) result }
+    // The answer for a document is lawful, and is written whole.
+    ensures lawful { KeepsItsPromise words.now (source_seen S.Source source.old) (source_seen S.Source source.new) (sinks_seen K.Sink E.Sink out.old err.old) (sinks_seen K.Sink E.Sink out.new err.new) result }
 
     // Where a cause is there, its status comes, or one that stands above it.
-    ensures refusal { IsRefusable words.now (streams S.Source K.Sink E.Sink source.old out.old err.old) (streams S.Source K.Sink E.Sink source.new out.new err.new) → IsOrAbove Status.Refused result }
-    ensures overlong { IsOverlong words.now (streams S.Source K.Sink E.Sink source.old out.old err.old) (streams S.Source K.Sink E.Sink source.new out.new err.new) → IsOrAbove Status.ReadFault result }
-    ensures usage { (IsRunPlain words.now → ⊥) → (result ≡ Status.Usage) ⊎ (result ≡ Status.WriteFault) }
-    ensures unread { (IsRunPlain words.now → ⊥) → source.new ≡ source.old }
+    ensures refusal { IsRefusable words.now (source_seen S.Source source.old) (source_seen S.Source source.new) → IsOrAbove Status.Refused result }
+    ensures overlong { IsOverlong words.now (source_seen S.Source source.old) → IsOrAbove Status.ReadFault result }
+    ensures usage { asked words.now ≡ None → (result ≡ Status.Usage) ⊎ (result ≡ Status.WriteFault) }
+    ensures unread { asked words.now ≡ None → source.new ≡ source.old }
 {
     answer(alloc, words, source, out, err)
 }

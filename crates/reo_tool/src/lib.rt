@@ -2,15 +2,10 @@
 #![tactic(auto)]
 
 mod call;
-mod choice;
-mod ends;
+mod command;
 mod fault_text;
-mod fire;
-mod offers;
-mod owners;
-mod progress;
-mod schedule;
 mod status;
 
-pub use call::{checked, plain_call, tell_memory};
+pub use call::{plain_call, prepare_document, tell_memory};
+pub use command::Command;
 pub use status::Status;

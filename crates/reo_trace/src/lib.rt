@@ -7,5 +7,6 @@ mod measure;
 mod report;
 mod write;
 
+pub use lines::{bytes_at, push_bytes, push_decimal, push_name, push_signed, push_value};
 pub use report::{Called, Ending, Report};
 pub use write::{WriteRefusal, write_report};

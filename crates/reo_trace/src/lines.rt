@@ -11,8 +11,8 @@ use reo_net::{Net, Port, Step};
 use reo_value::{Lexicon, Op, Value, Way};
 use std::alloc::AllocError;
 
-// The text of this number, or no bytes where there is none.
-pub(crate) fn bytes_at(texts: &Lexicon, number: usize) -> &[u8]
+/// The text of this number, or no bytes where there is none.
+pub fn bytes_at(texts: &Lexicon, number: usize) -> &[u8]
     ensures { result.now ≡ text_at texts.now number }
 {
     if number >= texts.len() as usize {
@@ -21,20 +21,23 @@ pub(crate) fn bytes_at(texts: &Lexicon, number: usize) -> &[u8]
     texts.text_or_empty(number as u32).as_bytes()
 }
 
-fn push_bytes(buffer: &mut Vec<u8>, bytes: &[u8]) -> Result<(), AllocError>
+/// Appends bytes to a buffer.
+pub fn push_bytes(buffer: &mut Vec<u8>, bytes: &[u8]) -> Result<(), AllocError>
     ensures { Takes buffer.old buffer.new result bytes.now }
 {
     buffer.extend_from_slice(bytes)
 }
 
-fn push_decimal(buffer: &mut Vec<u8>, number: u64) -> Result<(), AllocError>
+/// Appends a number in decimal.
+pub fn push_decimal(buffer: &mut Vec<u8>, number: u64) -> Result<(), AllocError>
     ensures { Takes buffer.old buffer.new result (decimal number) }
 {
     let mut digits = Buffer::new();
     push_bytes(buffer, digits.format(number).as_bytes())
 }
 
-fn push_signed(buffer: &mut Vec<u8>, number: i64) -> Result<(), AllocError>
+/// Appends a number in decimal, with its sign where it is negative.
+pub fn push_signed(buffer: &mut Vec<u8>, number: i64) -> Result<(), AllocError>
     ensures { Takes buffer.old buffer.new result (signed_decimal number) }
 {
     let mut digits = Buffer::new();
@@ -62,7 +65,8 @@ fn push_escaped(buffer: &mut Vec<u8>, bytes: &[u8]) -> Result<(), AllocError>
     Ok(())
 }
 
-fn push_value(buffer: &mut Vec<u8>, texts: &Lexicon, value: Value) -> Result<(), AllocError>
+/// Appends a value as documents and reports spell it.
+pub fn push_value(buffer: &mut Vec<u8>, texts: &Lexicon, value: Value) -> Result<(), AllocError>
     ensures { Takes buffer.old buffer.new result (value_text texts.now value) }
 {
     match value {
@@ -110,7 +114,13 @@ fn push_end(buffer: &mut Vec<u8>, place: u64) -> Result<(), AllocError>
     }
 }
 
-fn push_name(buffer: &mut Vec<u8>, net: &Net, nodes: &Lexicon, name: u32) -> Result<(), AllocError>
+/// Appends a name: that of a port by its node, that of an end by its channel.
+pub fn push_name(
+    buffer: &mut Vec<u8>,
+    net: &Net,
+    nodes: &Lexicon,
+    name: u32,
+) -> Result<(), AllocError>
     ensures { Takes buffer.old buffer.new result (name_text net.now nodes.now name) }
 {
     let ports = net.ports();

@@ -1,0 +1,14 @@
+use Rattle.std.proofs.Common.{refl}
+use Rattle.reo_tool.specs.Call.{sinks_seen, ForDocument, ForBytes, Spelled}
+use Rattle.reo_tool.proofs.CallLaw.{writes_as, text_told}
+use Rattle.reo_tool.proofs.call.answer_bytes.Goals as goal
+
+pub returns-in-Ok : goal.returns-in-Ok
+returns-in-Ok g c =
+    writes_as (ForDocument c.args.command c.in-Ok.document) (ForBytes c.args.command c.args.bytes.now) (sinks_seen g.K.Sink g.E.Sink c.args.out.now c.args.err.now)
+    (sinks_seen g.K.Sink g.E.Sink c.answer_document.new.out c.answer_document.new.err) c.answer_document.result (λ target told own has. Spelled c.in-Ok.document target told own c.in-Ok.ensures.spells has) c.answer_document.ensures
+
+pub returns-in-Err : goal.returns-in-Err
+returns-in-Err g c =
+    text_told c.args.command c.args.bytes.now c.in-Err.refusal (sinks_seen g.K.Sink g.E.Sink c.args.out.now c.args.err.now) (sinks_seen g.K.Sink g.E.Sink c.args.out.now c.tell_text.new.err) c.tell_text.result
+    c.in-Err.ensures.refused c.tell_text.ensures.told c.tell_text.ensures.memory refl

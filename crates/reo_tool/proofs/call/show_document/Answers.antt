@@ -1,0 +1,18 @@
+use Rattle.std.proofs.Common.{sym, subst, ◌∙◌, refl, List, ℕ}
+use Rattle.reo_print.specs.Canonical.{canonical_text}
+use Rattle.reo_tool.specs.declared.command.Command.TheVariants.{Show}
+use Rattle.reo_tool.specs.declared.status.Status.TheVariants.{Done, Memory}
+use Rattle.reo_tool.specs.FaultText.{out_of_memory_text}
+use Rattle.reo_tool.specs.Call.{sink_seen, sinks_seen, IsWritten, ForDocument, Answer, Wanting}
+use Rattle.reo_tool.proofs.CallLaw.{writes_err, writes_out}
+use Rattle.reo_tool.proofs.call.show_document.Goals as goal
+
+pub returns-in-Ok : goal.returns-in-Ok
+returns-in-Ok g c =
+    writes_out (ForDocument Show c.args.document.now) (sinks_seen g.K.Sink g.E.Sink c.args.out.now c.args.err.now) (sinks_seen g.K.Sink g.E.Sink c.tell.new.sink c.args.err.now) c.as_slice.result.now Done c.tell.result
+    (Answer c.as_slice.result.now Done (c.as_slice.ensures.value ∙ c.in-Ok.ensures.canonical, refl)) c.tell.ensures.told refl
+
+pub returns-in-Err : goal.returns-in-Err
+returns-in-Err g c =
+    writes_err (ForDocument Show c.args.document.now) (sinks_seen g.K.Sink g.E.Sink c.args.out.now c.args.err.now) (sinks_seen g.K.Sink g.E.Sink c.args.out.now c.tell_memory.new.err) out_of_memory_text Memory c.tell_memory.result
+    Wanting c.tell_memory.ensures.told refl
