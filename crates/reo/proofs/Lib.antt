@@ -1,1 +1,2 @@
 pub mod SevenLemmas
+pub mod RingLemmas

@@ -1,22 +1,19 @@
 //! The templates and the cut of small circuits.
+use crate::circuits::{cut, net};
 use reo_automata::{Rule, Template, template_of};
-use reo_cut::{CellCut, Cut, cut_of};
+use reo_cut::CellCut;
 use reo_net::Net;
-use reo_text::read_document;
-use reo_tool::checked;
 use std::alloc::Global;
 
-fn net_of(alloc: Global, text: &str) -> Option<Net> {
-    if text.len() > 1000 {
-        return None;
-    }
-    let document = read_document(alloc, text.as_bytes()).ok()?;
-    checked(alloc, &document).ok()
-}
+const ROUTER: &str =
+    "in A\nlossy A F\nlossy A G\nsync F B\nsync F M\nsync G C\nsync G M\ndrain A M\nout B\nout C\n";
 
-fn cut(alloc: Global, text: &str) -> Option<Cut> {
-    let net = net_of(alloc, text)?;
-    cut_of(alloc, &net).ok()
+#[test]
+fn the_exclusive_router_is_one_region(rt: HostRuntime) {
+    let cut = cut(rt.alloc(), ROUTER).expect(&rt, "a circuit");
+    assert_eq!(rt; cut.regions, 1);
+    assert_eq!(rt; cut.port_region.as_slice(), [0, 0, 0].as_slice());
+    assert!(rt; cut.cells.is_empty());
 }
 
 fn template(alloc: Global, net: &Net, automaton: u32) -> Option<Template> {
@@ -62,22 +59,41 @@ fn is_template(template: &Template, names: &[u32], links: &[(&[u32], Rule)]) -> 
 fn a_link_for_each_transition(rt: HostRuntime) {
     let alloc = rt.alloc();
     let merge = "in A\nfifo A B\nfifo C B\nout B\n";
-    let net = net_of(alloc, merge).expect(&rt, "ample memory");
-    for (automaton, names, links) in [
+    let router = net(alloc, ROUTER)
+        .expect(&rt, "a document")
+        .expect(&rt, "accepted");
+    let net = net(alloc, merge)
+        .expect(&rt, "a document")
+        .expect(&rt, "accepted");
+    for (net, automaton, names, links) in [
         (
+            &router,
+            11,
+            &[10, 14, 16][..],
+            &[(&[10, 16][..], Rule::Same), (&[14, 16][..], Rule::Same)][..],
+        ),
+        (
+            &router,
+            0,
+            &[3, 4][..],
+            &[(&[3, 4][..], Rule::Same), (&[3][..], Rule::Free)][..],
+        ),
+        (
+            &net,
             0,
             &[2, 3][..],
             &[(&[2][..], Rule::Store), (&[3][..], Rule::Emit)][..],
         ),
-        (2, &[0, 2][..], &[(&[0, 2][..], Rule::Same)][..]),
+        (&net, 2, &[0, 2][..], &[(&[0, 2][..], Rule::Same)][..]),
         (
+            &net,
             3,
             &[1, 3, 5][..],
             &[(&[1, 3][..], Rule::Same), (&[1, 5][..], Rule::Same)][..],
         ),
-        (4, &[4][..], &[][..]),
+        (&net, 4, &[4][..], &[][..]),
     ] {
-        let template = template(alloc, &net, automaton).expect(&rt, "ample memory");
+        let template = template(alloc, net, automaton).expect(&rt, "ample memory");
         assert!(rt; is_template(&template, names, links), "at {automaton}");
     }
 }

@@ -1,8 +1,8 @@
 //! Public calls below the top one, with values worked by hand.
 use reo_base::{Gate, MemorySink, OpenGate, StdSink, StdSource, read_all, write_whole};
+use reo_document::read_document;
 use reo_net::{Step, channel_allows, datum_at, is_step, node_allows};
-use reo_text::read_document;
-use reo_tool::checked;
+use reo_tool::prepare_document;
 use reo_trace::{Ending, Report, write_report};
 use reo_value::{LexRefusal, Lexicon, Num, Op, Value, value_of, word_of};
 use sqlite_items::Items;
@@ -86,7 +86,8 @@ fn a_document_is_read_checked_and_told(rt: HostRuntime) {
     let minus_five = Value::Int(Num::new(-5).expect(&rt, "in range"));
     let script = document.scripts().first().expect(&rt, "a script");
     assert_eq!(rt; script.as_slice(), [Op::Put(0, minus_five)].as_slice());
-    let net = checked(alloc, &document).expect(&rt, "ample memory");
+    let prepared = prepare_document(alloc, &document).expect(&rt, "ample memory");
+    let net = prepared.net;
     assert_eq!(rt; (net.nodes(), net.texts(), net.names()), (2, 0, 3));
     assert_eq!(rt; (net.channels().len(), net.ports().len()), (1, 1));
     let fill = Step {

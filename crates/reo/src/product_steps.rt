@@ -1,7 +1,6 @@
 //! Steps that a person can check by hand: which are steps of the product, and which are not, each for one reason.
+use crate::circuits::{document, net};
 use reo_net::{Step, is_product_step};
-use reo_text::read_document;
-use reo_tool::checked;
 use reo_value::{Num, Value};
 use sqlite_items::Items;
 use std::alloc::Global;
@@ -37,11 +36,8 @@ fn allows(
     names: &[(u32, i64)],
     new: &[i64],
 ) -> Option<bool> {
-    if text.len() > 1000 {
-        return None;
-    }
-    let document = read_document(alloc, text.as_bytes()).ok()?;
-    let net = checked(alloc, &document).ok()?;
+    let document = document(alloc, text)?;
+    let net = net(alloc, text)?.ok()?;
     let before = state(alloc, old)?;
     let after = state(alloc, new)?;
     let fired = step(alloc, names)?;
@@ -132,4 +128,67 @@ fn two_nodes_fire_in_one_step_where_they_share_no_name(rt: HostRuntime) {
     assert_eq!(rt; allows(alloc, chain, &[7, 0], inner, &[0, 7]), Some(true));
     let outer = &[(0, 8), (1, 7), (2, 8), (5, 7)];
     assert_eq!(rt; allows(alloc, chain, &[0, 7], outer, &[8, 0]), Some(true));
+}
+
+const SYNC: &str = "in A\nsync A B\nout B\n";
+
+const LOSSY: &str = "in A\nlossy A B\nout B\n";
+
+const DRAIN: &str = "in A\nin B\ndrain A B\n";
+
+const FILTER: &str = "in A\nfilter A B x > 3\nout B\n";
+
+const TRANSFORM: &str = "in A\ntransform A B + 1\nout B\n";
+
+const LENGTH: &str = "in A\ntransform A B len\nout B\n";
+
+/// A circuit, the data at its port at A, at its end a, at its end b and at its port at B, where they are not 0, and whether they are
+/// those of a step.
+const ROWS: &[(&str, [i64; 4], bool, &str)] = &[
+    (SYNC, [7, 7, 7, 7], true, "a sync hands on"),
+    (SYNC, [7, 7, 8, 8], false, "a sync with two data"),
+    (SYNC, [7, 7, 0, 0], false, "a sync that loses"),
+    (LOSSY, [7, 7, 7, 7], true, "a lossy one hands on"),
+    (LOSSY, [7, 7, 0, 0], true, "a lossy one loses"),
+    (LOSSY, [7, 7, 8, 8], false, "a lossy one with two data"),
+    (LOSSY, [0, 0, 7, 7], false, "a loss with b firing"),
+    (LOSSY, [7, 0, 0, 0], false, "an end a left out"),
+    (DRAIN, [7, 7, 8, 8], true, "a drain takes any two data"),
+    (DRAIN, [7, 7, 0, 0], false, "a drain that fires one end"),
+    (FILTER, [7, 7, 7, 7], true, "a filter passes"),
+    (FILTER, [3, 3, 0, 0], true, "a filter loses what fails it"),
+    (FILTER, [3, 3, 3, 3], false, "a filter passes what fails it"),
+    (FILTER, [7, 7, 0, 0], false, "a filter loses what meets it"),
+    (FILTER, [7, 7, 8, 8], false, "a filter with two data"),
+    (TRANSFORM, [7, 7, 8, 8], true, "a transform"),
+    (TRANSFORM, [7, 7, 7, 7], false, "a transform with another"),
+    (TRANSFORM, [7, 7, 0, 0], false, "a transform that loses"),
+    (LENGTH, [7, 7, 1, 1], false, "no image"),
+    (
+        TRANSFORM,
+        [4_611_686_018_427_387_903, 4_611_686_018_427_387_903, -4, -4],
+        false,
+        "an image out of range",
+    ),
+];
+
+/// The names with their data, where there is one.
+fn names(alloc: Global, data: [i64; 4]) -> Option<Vec<(u32, i64)>> {
+    let mut names = Vec::new(alloc);
+    for (name, datum) in [(0, data[0]), (1, data[3]), (2, data[1]), (3, data[2])] {
+        if datum != 0 {
+            names.push((name, datum)).ok()?;
+        }
+    }
+    Some(names)
+}
+
+#[test]
+fn each_kind_steps_in_a_circuit_as_its_automaton(rt: HostRuntime) {
+    let alloc = rt.alloc();
+    for (text, data, wanted, why) in ROWS {
+        let names = names(alloc, *data).expect(&rt, "ample memory");
+        let found = allows(alloc, text, &[], &names, &[]);
+        assert_eq!(rt; found, Some(*wanted), "{why}");
+    }
 }

@@ -13,14 +13,14 @@ const RING: &str = "fifo X Y full 1\nfifo Y X\nfifo G H\nout H\ncomponent Q\nget
 
 /// What a call answered and wrote.
 #[derive(Drop)]
-struct Written {
-    status: Status,
-    out: MemorySink,
-    err: MemorySink,
+pub struct Written {
+    pub status: Status,
+    pub out: MemorySink,
+    pub err: MemorySink,
 }
 
 /// Calls with pieces of 4 bytes read and of 5 bytes written.
-fn called(
+pub fn called(
     alloc: Global,
     words: &[&str],
     text: &str,
@@ -37,7 +37,7 @@ fn called(
 }
 
 /// A text, and the status, the output and the complaint that it has.
-const ROWS: [(&str, Status, &str, &str); 13] = [
+const ROWS: [(&str, Status, &str, &str); 18] = [
     (FIRST, Status::Done, FIRST_REPORT, ""),
     ("", Status::Done, "end done\n", ""),
     ("component P\n", Status::Done, "end done\n", ""),
@@ -78,16 +78,46 @@ const ROWS: [(&str, Status, &str, &str); 13] = [
         "",
     ),
     (
-        "sync A B\n",
+        "sync A B\nsync B A\n",
         Status::Refused,
         "",
-        "reo: line 1: not built\n",
+        "reo: node A: synchronous loop\n",
     ),
     (
-        "in A\nsync A B\n",
+        "in A\nfifo A",
         Status::Refused,
         "",
-        "reo: line 2: not built\n",
+        "reo: line 2, column 7: syntax\n",
+    ),
+    (
+        "fifo A B full 4611686018427387904\n",
+        Status::Refused,
+        "",
+        "reo: line 1: number out of range\n",
+    ),
+    (
+        "component c\ncomponent c\n",
+        Status::Refused,
+        "",
+        "reo: line 2: component named twice\n",
+    ),
+    (
+        "in A\ncomponent P\nput B 1\n",
+        Status::Refused,
+        "",
+        "reo: line 3: unknown port\n",
+    ),
+    (
+        "out B\ncomponent C\nput B 1\n",
+        Status::Refused,
+        "",
+        "reo: line 3: wrong way\n",
+    ),
+    (
+        "in A\ncomponent P\nput A 1\ncomponent Q\nput A 2\n",
+        Status::Refused,
+        "",
+        "reo: line 5: port shared\n",
     ),
     (
         "fifo X A\nin A\n",
@@ -129,6 +159,11 @@ fn other_words_read_nothing(rt: HostRuntime) {
         &["run"],
         &["run", "--plain", "--plain"],
         &["run", "--limit"],
+        &["run", "--plain", "--limit", "010"],
+        &["run", "--plain", "--limit", "0"],
+        &["run", "--plain", "--limit", "100001"],
+        &["shows"],
+        &["plan", "x"],
     ] {
         let written = called(
             alloc,

@@ -1,0 +1,74 @@
+#!/usr/bin/env python3
+"""Runs the built program on circuits at their limits, and prints seconds and peak memory of each run.
+
+Usage: bench/regions.py [PROGRAM]    (default: crates/reo/out/reo, which ./reo builds)
+"""
+import os
+import subprocess
+import sys
+import tempfile
+
+HERE = os.path.dirname(os.path.abspath(__file__))
+
+
+def fan(width, depth=0):
+    """LossySyncs from one put port, each behind it a line of Syncs to a get port."""
+    lines = ["in A"]
+    for k in range(width):
+        lines += [f"lossy A B{k}_0"]
+        lines += [f"sync B{k}_{d} B{k}_{d + 1}" for d in range(depth)]
+        lines += [f"out B{k}_{depth}"]
+    return lines
+
+
+def limits():
+    """512 channels, 128 ports and 1,024 nodes: the checks, the cut and 512 small tables."""
+    lines = [f"in P{k}" for k in range(64)] + [f"out Q{k}" for k in range(64)]
+    for k in range(64):
+        lines += [f"sync P{k} M{k}", f"fifo M{k} Q{k}"]
+    return lines + [f"sync X{k} Y{k}" for k in range(384)]
+
+
+def merger(width):
+    """LossySyncs from put ports into one node."""
+    return [line for k in range(width) for line in (f"in A{k}", f"lossy A{k} M")] + ["out M"]
+
+
+def router(items):
+    """Choices on the exclusive router, in turn for the one get port and the other."""
+    circuit = ["in A", "lossy A F", "lossy A G", "sync F B", "sync F M", "sync G C", "sync G M", "drain A M", "out B", "out C"]
+    script = ["component P"] + ["put A 5"] * items + ["component Q"] + ["get B"] * (items // 2)
+    return circuit + script + ["component R"] + ["get C"] * (items // 2)
+
+
+def syncs(length, items):
+    """A line of Syncs, through which data go at once."""
+    lines = ["in N0"] + [f"sync N{k} N{k + 1}" for k in range(length)] + [f"out N{length}", "component P"]
+    lines += [f"put N0 {k}" for k in range(items)]
+    return lines + ["component Q"] + [f"get N{length}"] * items
+
+
+CASES = [
+    ("all limits", "plan", limits()),
+    ("fan of 4,096 firings", "plan", fan(12)),
+    ("more than 65,536 vertices", "plan", fan(9, 40)),
+    ("merger of twelve", "plan", merger(12)),
+    ("20,000 choices of a router", "run --plain", router(20_000)),
+    ("2,000 data through 64 Syncs", "run --plain", syncs(64, 2_000)),
+]
+
+
+def main():
+    program = sys.argv[1] if len(sys.argv) > 1 else os.path.join(HERE, "..", "crates", "reo", "out", "reo")
+    for title, words, lines in CASES:
+        with tempfile.TemporaryFile() as text:
+            text.write(("\n".join(lines) + "\n").encode())
+            text.seek(0)
+            timed = ["/usr/bin/time", "-f", "%e s, %M KiB"]
+            run = subprocess.run(timed + [program] + words.split(), stdin=text, stdout=subprocess.DEVNULL, stderr=subprocess.PIPE)
+        told = [line for line in run.stderr.decode().splitlines() if not line.startswith("Command exited")]
+        print(f"{title}: {'; '.join(told)}")
+
+
+if __name__ == "__main__":
+    main()
