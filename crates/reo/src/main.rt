@@ -11,35 +11,6 @@ use std::env;
 use std::io::ErrorKind;
 use std::process::ExitCode;
 
-#[cfg(test)]
-mod checks;
-#[cfg(test)]
-mod circuits;
-#[cfg(test)]
-mod cuts;
-#[cfg(test)]
-mod each_call;
-#[cfg(test)]
-mod graphs;
-#[cfg(test)]
-mod guards;
-#[cfg(test)]
-mod kinds;
-#[cfg(test)]
-mod product_steps;
-#[cfg(test)]
-mod refused_lines;
-#[cfg(test)]
-mod rows;
-#[cfg(test)]
-mod runs;
-#[cfg(test)]
-mod seven;
-#[cfg(test)]
-mod tables;
-#[cfg(test)]
-mod words;
-
 /// The words after the program's name. Words that are not UTF-8 count as none.
 fn words_of(rt: &HostRuntime) -> Result<Vec<String>, AllocError> {
     let mut words = Vec::new(rt.alloc());

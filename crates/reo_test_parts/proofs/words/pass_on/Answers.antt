@@ -1,6 +1,6 @@
 use Rattle.std.proofs.Common.{◌∙◌}
-use Rattle.reo.proofs.RingLemmas.{fill_still_due}
-use Rattle.reo.proofs.words.pass_on.Goals as goal
+use Rattle.reo_test_parts.proofs.RingLemmas.{fill_still_due}
+use Rattle.reo_test_parts.proofs.words.pass_on.Goals as goal
 
 pub set_cell-requires-2-clause-due : goal.set_cell-requires-2-clause-due
 set_cell-requires-2-clause-due c =

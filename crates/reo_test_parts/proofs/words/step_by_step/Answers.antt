@@ -1,6 +1,6 @@
 use Rattle.std.proofs.Common.{◌∙◌}
-use Rattle.reo.proofs.RingLemmas.{fill_still_due}
-use Rattle.reo.proofs.words.step_by_step.Goals as goal
+use Rattle.reo_test_parts.proofs.RingLemmas.{fill_still_due}
+use Rattle.reo_test_parts.proofs.words.step_by_step.Goals as goal
 
 pub set_cell-requires-2-clause-due : goal.set_cell-requires-2-clause-due
 set_cell-requires-2-clause-due c =

@@ -13,7 +13,7 @@ use Rattle.reo_coupling.specs.Parts.{NothingDue}
 use Rattle.reo_coupling.specs.Steps.{IsDue}
 use Rattle.reo_coupling.specs.Seats.{fresh_region}
 use Rattle.reo_table.specs.Shared.{WordsState, SeatState, RootState, with_cells}
-use Rattle.reo.specs.Ring.{ring, moved, CanPass}
+use Rattle.reo_test_parts.specs.Ring.{ring, moved, CanPass}
 
 -- a seat that was just made
 pub fresh_can_pass : (words : WordsState) (seat : SeatState) (root : RootState) (limit region from to : ℕ) → words.setting ≡ record { fabric = ring; limit = limit } → seat ≡ record { id = root.id; view = fresh_region root.view.limit region }

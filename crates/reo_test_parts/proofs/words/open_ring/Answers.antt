@@ -1,9 +1,9 @@
 use Rattle.std.proofs.Common.{◌≡◌, refl, ap, ◌∙◌, arith}
 use Rattle.reo_fabric.specs.declared.fabric.Fabric.{Fabric}
 use Rattle.reo_table.specs.Shared.{RootState}
-use Rattle.reo.specs.Ring.{ring}
-use Rattle.reo.proofs.RingLemmas.{fresh_can_pass}
-use Rattle.reo.proofs.words.open_ring.Goals as goal
+use Rattle.reo_test_parts.specs.Ring.{ring}
+use Rattle.reo_test_parts.proofs.RingLemmas.{fresh_can_pass}
+use Rattle.reo_test_parts.proofs.words.open_ring.Goals as goal
 
 pub returns : goal.returns
 returns c =

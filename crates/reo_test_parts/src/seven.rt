@@ -2,7 +2,7 @@
 ghost use Rattle.std.specs.Prelude.{◌≡◌, pos, nat_eq, IfOk};
 ghost use Rattle.std.specs.Map.{lookup};
 ghost use Rattle.reo_value.specs.declared.value.Value.TheVariants.{Int};
-ghost use Rattle.reo.specs.Seven.{SevenAllows, seven_choice, seven_chooses, is_seven, is_offered, is_ready, word_pairs, one_cell};
+ghost use Rattle.reo_test_parts.specs.Seven.{SevenAllows, seven_choice, seven_chooses, is_seven, is_offered, is_ready, word_pairs, one_cell};
 
 use reo_fabric::{CellSpec, Choice, Decider, Fabric, PlainEngine, PortSpec, Reading, Room};
 use reo_value::{Num, Value, Way};

@@ -1,7 +1,7 @@
 //! Two regions that pass a datum round, step by step and on two threads.
 ghost use Rattle.std.specs.Prelude.{◌≡◌, ◌≤◌, IfOk, pos};
 ghost use Rattle.reo_value.specs.declared.value.Value.TheVariants.{Int};
-ghost use Rattle.reo.specs.Ring.{ring, CanPass, moved, Turned, IsOpen};
+ghost use Rattle.reo_test_parts.specs.Ring.{ring, CanPass, moved, Turned, IsOpen};
 
 use reo_fabric::{CellSpec, Entry, Fabric};
 use reo_table::{Clock, RegionSeat, Words};

@@ -11,7 +11,7 @@ use Rattle.reo_fabric.specs.declared.entry.Entry.{Entry}
 use Rattle.reo_fabric.specs.Entry.{at_place}
 use Rattle.reo_fabric.specs.Reading.{IsReadingIn}
 use Rattle.reo_fabric.specs.Decider.{Fits, IsFitting, Takes, Gets, port_words}
-use Rattle.reo.specs.Seven.{the_entry, is_seven, is_offered, is_ready, SevenAllows, seven_choice, one_cell}
+use Rattle.reo_test_parts.specs.Seven.{the_entry, is_seven, is_offered, is_ready, SevenAllows, seven_choice, one_cell}
 
 one_at : {A : Type 0} (P : A → Type 0) (x : A) → P x → (k : ℕ) (d : A) → k < length (x ∷ []) → P (get_or (x ∷ []) k d)
 one_at P x here zero d within = here

@@ -1,8 +1,8 @@
 use Rattle.std.proofs.Common.{◌<◌, ◌≤◌, length, arith, sym, subst}
 use Rattle.reo_fabric.specs.Room.{RoomState}
-use Rattle.reo.specs.Seven.{the_entry}
-use Rattle.reo.proofs.SevenLemmas.{chosen_is}
-use Rattle.reo.proofs.seven.TakesSevenDecider.entry_into.Goals as goal
+use Rattle.reo_test_parts.specs.Seven.{the_entry}
+use Rattle.reo_test_parts.proofs.SevenLemmas.{chosen_is}
+use Rattle.reo_test_parts.proofs.seven.TakesSevenDecider.entry_into.Goals as goal
 
 pub take-requires : goal.take-requires
 take-requires c =
