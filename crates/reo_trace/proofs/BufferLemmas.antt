@@ -1,10 +1,10 @@
 -- How the pushes of parts make up that of a whole.
-use Rattle.std.proofs.Common.{◌≡◌, ℕ, ◌+◌, ◌<◌, List, [], ◌++◌, length, take, get_or, Result, Ok, Err, vec_len, vec_capacity, sym, ap, ◌∙◌, arith, append_assoc, append-nil, length-append, subst}
+use Rattle.std.proofs.Common.{◌≡◌, ℕ, ◌+◌, ◌<◌, List, [], ◌++◌, length, take, get_or, Result, Ok, Err, sym, ap, ◌∙◌, arith, append_assoc, append-nil, length-append, subst}
 use Rattle.std.specs.Result.{IsErr}
 use Rattle.std.specs.Prelude.{Vec}
 use Rattle.std.specs.List.{flat_map}
 use Rattle.reo_trace.proofs.ListLemmas.{numbered-next, numbered-split, flat_map-numbered}
-use Rattle.reo_trace.specs.Buffer.{HasTaken, LacksRoom, Takes, Fills}
+use Rattle.reo_trace.specs.Buffer.{HasTaken, LacksRoom, Takes}
 
 pub HasTaken-trans : {Z : Type 0} (a b c : Vec ℕ Z) (x y : List ℕ) → HasTaken a b x → HasTaken b c y → HasTaken a c (x ++ y)
 HasTaken-trans a b c x y p q = record {
@@ -29,18 +29,6 @@ LacksRoom-trans a b c x y p q = record {
 pub Takes-trans : {Z T E : Type 0} (a b c : Vec ℕ Z) (r : Result T E) (x y : List ℕ) → HasTaken a b x → Takes b c r y → Takes a c r (x ++ y)
 Takes-trans a b c (Ok done) x y p q = HasTaken-trans a b c x y p q
 Takes-trans a b c (Err e) x y p q = LacksRoom-trans a b c x y p q
-
--- a push into an empty buffer
-pub Fills-from_empty : {Z T E : Type 0} (a b c : Vec ℕ Z) (r : Result T E) (x : List ℕ) → b.items ≡ [] → vec_len b ≡ 0 → vec_capacity b ≡ vec_capacity a → Takes b c r x → Fills a c r x
-Fills-from_empty a b c (Ok done) x none len room p = record {
-  items = p.items ∙ ap (λ l. l ++ x) none;
-  len = omega (arith, p.len, len);
-  capacity = omega (arith, p.capacity, room);
-}
-Fills-from_empty a b c (Err e) x none len room p = record {
-  full = omega (arith, p.full, len, room);
-  capacity = omega (arith, p.capacity, room);
-}
 
 pub HasTaken-none : {Z : Type 0} (a : Vec ℕ Z) → HasTaken a a []
 HasTaken-none a = record {

@@ -1,4 +1,5 @@
 pub mod BufferLemmas
 pub mod ListLemmas
 pub mod ReportLemmas
+pub mod RoomLemmas
 pub mod WriteLemmas

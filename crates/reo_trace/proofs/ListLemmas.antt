@@ -8,7 +8,7 @@ use Rattle.reo_trace.specs.declared.report.Called.{Called}
 use Rattle.reo_trace.specs.declared.report.Report.{Report}
 use Rattle.reo_value.specs.Lexicon.{text_at}
 use Rattle.reo_trace.specs.ReportText.{step_line, step_lines, call_line, call_lines, end_line, report_text}
-use Rattle.reo_trace.specs.Passes.{numbered, EachUpTo, OwnFit, CallsFit, own_calls, all_lines}
+use Rattle.reo_trace.specs.Passes.{numbered, piece, EachUpTo, OwnFit, CallsFit, own_calls, all_lines}
 
 pub numbered-append : {A : Type 0} (f : ℕ → A → List ℕ) (n : ℕ) (xs ys : List A) → numbered f n (xs ++ ys) ≡ numbered f n xs ++ numbered f (n + length xs) ys
 numbered-append f n [] ys = ap (λ m. numbered f m ys) (sym (add-zero n))
@@ -80,19 +80,19 @@ pub EachUpTo-weaken : {A : Type 0} (P Q : ℕ → A → Type 0) (xs : List A) (n
 EachUpTo-weaken P Q xs n weaken below = record { each = λ k d k_lt. weaken k (get_or xs k d) (below.each k d k_lt) }
 
 -- the next line fits too, in room that only grew
-pub LinesFit-next : {A : Type 0} (f : ℕ → A → List ℕ) (xs : List A) (i : ℕ) (x d : A) (room more : ℕ) → i < length xs → get_or xs i d ≡ x → room ≤ more → length (f i x) ≤ more
-    → EachUpTo (λ k y. length (f k y) ≤ room) xs i → EachUpTo (λ k y. length (f k y) ≤ more) xs (i + 1)
+pub LinesFit-next : {A : Type 0} (f : ℕ → A → List ℕ) (xs : List A) (i : ℕ) (x d : A) (room more : ℕ) → i < length xs → get_or xs i d ≡ x → room ≤ more → piece + length (f i x) ≤ more
+    → EachUpTo (λ k y. piece + length (f k y) ≤ room) xs i → EachUpTo (λ k y. piece + length (f k y) ≤ more) xs (i + 1)
 LinesFit-next f xs i x d room more lt same grows here below =
-    EachUpTo-next (λ k y. length (f k y) ≤ room) (λ k y. length (f k y) ≤ more) xs i x d lt same (λ k y le. omega arith) here below
+    EachUpTo-next (λ k y. piece + length (f k y) ≤ room) (λ k y. piece + length (f k y) ≤ more) xs i x d lt same (λ k y le. omega arith) here below
 
 -- one of the lines that fit
-pub LinesFit-at : {A : Type 0} (f : ℕ → A → List ℕ) (xs : List A) (n i : ℕ) (x d : A) (room more : ℕ) → EachUpTo (λ k y. length (f k y) ≤ room) xs n → i < n → get_or xs i d ≡ x → room ≤ more → length (f i x) ≤ more
+pub LinesFit-at : {A : Type 0} (f : ℕ → A → List ℕ) (xs : List A) (n i : ℕ) (x d : A) (room more : ℕ) → EachUpTo (λ k y. piece + length (f k y) ≤ room) xs n → i < n → get_or xs i d ≡ x → room ≤ more → piece + length (f i x) ≤ more
 LinesFit-at f xs n i x d room more fits lt same grows =
-    let le : length (f i (get_or xs i d)) ≤ room = fits.each i d lt in
+    let le : piece + length (f i (get_or xs i d)) ≤ room = fits.each i d lt in
     omega (arith, le, ap (λ y. length (f i y)) same, grows)
 
-pub LinesFit-weaken : {A : Type 0} (f : ℕ → A → List ℕ) (xs : List A) (n room more : ℕ) → room ≤ more → EachUpTo (λ k y. length (f k y) ≤ room) xs n → EachUpTo (λ k y. length (f k y) ≤ more) xs n
-LinesFit-weaken f xs n room more grows fits = EachUpTo-weaken (λ k y. length (f k y) ≤ room) (λ k y. length (f k y) ≤ more) xs n (λ k y le. omega arith) fits
+pub LinesFit-weaken : {A : Type 0} (f : ℕ → A → List ℕ) (xs : List A) (n room more : ℕ) → room ≤ more → EachUpTo (λ k y. piece + length (f k y) ≤ room) xs n → EachUpTo (λ k y. piece + length (f k y) ≤ more) xs n
+LinesFit-weaken f xs n room more grows fits = EachUpTo-weaken (λ k y. piece + length (f k y) ≤ room) (λ k y. piece + length (f k y) ≤ more) xs n (λ k y le. omega arith) fits
 
 pub CallsFit-weaken : (c : RawCircuit) (nodes texts people : List (List ℕ)) (calls : List (List Called)) (n room more : ℕ) → room ≤ more
     → CallsFit c nodes texts people calls n room → CallsFit c nodes texts people calls n more

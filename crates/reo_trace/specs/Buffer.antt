@@ -15,18 +15,3 @@ pub record LacksRoom {Z : Type 0} (old new : Vec ℕ Z) (text : List ℕ) : Type
 abbrev pub Takes : {Z T E : Type 0} → Vec ℕ Z → Vec ℕ Z → Result T E → List ℕ → Type 0
 Takes old new (Ok done) text = HasTaken old new text
 Takes old new (Err error) text = LacksRoom old new text
-
--- the buffer holds the line and nothing else
-pub record IsFilled {Z : Type 0} (old new : Vec ℕ Z) (line : List ℕ) : Type 0 where
-  pub items : new.items ≡ line
-  pub len : vec_len new ≡ length line
-  pub capacity : vec_capacity old ≤ vec_capacity new
-
--- the buffer had no room for the line
-pub record IsTooSmall {Z : Type 0} (old new : Vec ℕ Z) (line : List ℕ) : Type 0 where
-  pub full : vec_capacity old < length line
-  pub capacity : vec_capacity old ≤ vec_capacity new
-
-abbrev pub Fills : {Z T E : Type 0} → Vec ℕ Z → Vec ℕ Z → Result T E → List ℕ → Type 0
-Fills old new (Ok done) line = IsFilled old new line
-Fills old new (Err error) line = IsTooSmall old new line

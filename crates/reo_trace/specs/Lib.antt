@@ -3,3 +3,4 @@ pub mod Lawful
 pub mod Laws
 pub mod Passes
 pub mod ReportText
+pub mod Pieces

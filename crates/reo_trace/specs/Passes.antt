@@ -1,7 +1,5 @@
--- The two passes over the lines of a report: the first makes room for each, the second writes them.
-use Rattle.std.specs.Prelude.{ℕ, ◌+◌, ◌^◌, ◌<◌, ◌≤◌, List, [], ◌∷◌, ◌++◌, length, take, slice_index_or, Option, Result, Ok, Err}
-use Rattle.reo_base.specs.declared.whole_write.WriteFault.{WriteFault}
-use Rattle.reo_base.specs.Streams.{IsExtended}
+-- The two passes over the lines of a report: the first finds the room for each, the second writes them.
+use Rattle.std.specs.Prelude.{ℕ, ◌+◌, ◌^◌, ◌<◌, ◌≤◌, List, [], ◌∷◌, ◌++◌, length, slice_index_or, Result, Ok, Err}
 use Rattle.reo_net.specs.declared.circuit.RawCircuit.{RawCircuit}
 use Rattle.reo_net.specs.declared.circuit.Step.{Step}
 use Rattle.reo_trace.specs.declared.report.Called.{Called}
@@ -36,13 +34,17 @@ all_lines c nodes texts people report =
 pub record EachUpTo {A : Type 0} (P : ℕ → A → Type 0) (xs : List A) (n : ℕ) : Type 0 where
   pub each : (k : ℕ) (d : A) → k < n → P k (slice_index_or xs k d)
 
--- there is room for the line of each of the first n steps
+-- so many bytes that are held back go on
+abbrev pub piece : ℕ
+piece = 65536
+
+-- there is room for the line of each of the first n steps, behind a piece
 abbrev pub StepsFit : RawCircuit → List (List ℕ) → List (List ℕ) → List Step → ℕ → ℕ → Type 0
-StepsFit c nodes texts steps n room = EachUpTo (λ number step. length (step_line c nodes texts number step) ≤ room) steps n
+StepsFit c nodes texts steps n room = EachUpTo (λ number step. piece + length (step_line c nodes texts number step) ≤ room) steps n
 
 -- there is room for the line of each of a component's first n calls
 abbrev pub OwnFit : RawCircuit → List (List ℕ) → List (List ℕ) → List ℕ → List Called → ℕ → ℕ → Type 0
-OwnFit c nodes texts person own n room = EachUpTo (λ _ call. length (call_line c nodes texts person call) ≤ room) own n
+OwnFit c nodes texts person own n room = EachUpTo (λ _ call. piece + length (call_line c nodes texts person call) ≤ room) own n
 
 -- there is room for the line of each call of the first n components
 abbrev pub CallsFit : RawCircuit → List (List ℕ) → List (List ℕ) → List (List ℕ) → List (List Called) → ℕ → ℕ → Type 0
@@ -52,18 +54,8 @@ CallsFit c nodes texts people calls n room = EachUpTo (λ k own. OwnFit c nodes 
 pub record Fits (c : RawCircuit) (nodes texts people : List (List ℕ)) (report : Report) (room : ℕ) : Type 0 where
   pub steps : StepsFit c nodes texts report.steps (length report.steps) room
   pub calls : CallsFit c nodes texts people report.calls (length report.calls) room
-  pub end : length (end_line report.ending) ≤ room
+  pub end : piece + length (end_line report.ending) ≤ room
   pub total : length (all_lines c nodes texts people report) < 2 ^ 64
-
--- exactly so many first bytes of a text were appended, where told, and not all of it
-pub record IsPart (old new : Option (List ℕ)) (written : ℕ) (text : List ℕ) : Type 0 where
-  pub front : IsExtended old new (take written text)
-  pub short : written < length text
-
--- a write of a text appends all of it, or as much as its fault says
-abbrev pub Writes : {T : Type 0} → Option (List ℕ) → Option (List ℕ) → Result T WriteFault → List ℕ → Type 0
-Writes old new (Ok done) text = IsExtended old new text
-Writes old new (Err fault) text = IsPart old new fault.written text
 
 -- a fact of the bytes written at a fault
 abbrev pub IfFault : {T : Type 0} → Result T WriteRefusal → (ℕ → Type 0) → Type 0

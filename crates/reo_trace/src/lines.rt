@@ -2,7 +2,7 @@
 ghost use Rattle.std.specs.Prelude.{◌≡◌, decimal, flat_map, slice_get, Some};
 ghost use Rattle.std.specs.Fmt.{signed_decimal};
 ghost use Rattle.reo_value.specs.Lexicon.{text_at};
-ghost use Rattle.reo_trace.specs.Buffer.{Takes, Fills};
+ghost use Rattle.reo_trace.specs.Buffer.{Takes};
 ghost use Rattle.reo_trace.specs.ReportText.{escaped, value_text, node_text, port_text, end_text, name_text, pair_text, step_line, op_text, call_line, end_line};
 
 use crate::{Called, Ending};
@@ -162,7 +162,7 @@ fn push_pairs(
     Ok(())
 }
 
-fn push_step(
+pub(crate) fn push_step(
     buffer: &mut Vec<u8>,
     net: &Net,
     nodes: &Lexicon,
@@ -193,7 +193,7 @@ fn push_op(buffer: &mut Vec<u8>, net: &Net, nodes: &Lexicon, op: Op) -> Result<(
     }
 }
 
-fn push_call(
+pub(crate) fn push_call(
     buffer: &mut Vec<u8>,
     net: &Net,
     nodes: &Lexicon,
@@ -213,41 +213,9 @@ fn push_call(
     push_bytes(buffer, b"\n")
 }
 
-// Makes the line of a step, alone in the buffer.
-pub(crate) fn fill_step(
-    buffer: &mut Vec<u8>,
-    net: &Net,
-    nodes: &Lexicon,
-    texts: &Lexicon,
-    number: usize,
-    step: &Step,
-) -> Result<(), AllocError>
-    ensures { Fills buffer.old buffer.new result (step_line net.now nodes.now texts.now number step.now) }
+pub(crate) fn push_ending(buffer: &mut Vec<u8>, ending: Ending) -> Result<(), AllocError>
+    ensures { Takes buffer.old buffer.new result (end_line ending) }
 {
-    buffer.clear();
-    push_step(buffer, net, nodes, texts, number as u64, step)
-}
-
-// Makes the line of a component's call, alone in the buffer.
-pub(crate) fn fill_call(
-    buffer: &mut Vec<u8>,
-    net: &Net,
-    nodes: &Lexicon,
-    texts: &Lexicon,
-    person: &[u8],
-    call: &Called,
-) -> Result<(), AllocError>
-    ensures { Fills buffer.old buffer.new result (call_line net.now nodes.now texts.now person.now call.now) }
-{
-    buffer.clear();
-    push_call(buffer, net, nodes, texts, person, call)
-}
-
-// Makes the line of the end, alone in the buffer.
-pub(crate) fn fill_ending(buffer: &mut Vec<u8>, ending: Ending) -> Result<(), AllocError>
-    ensures { Fills buffer.old buffer.new result (end_line ending) }
-{
-    buffer.clear();
     match ending {
         Ending::Done => push_bytes(buffer, b"end done\n"),
         Ending::Stuck => push_bytes(buffer, b"end stuck\n"),

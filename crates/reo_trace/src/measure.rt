@@ -1,98 +1,241 @@
-//! The first pass over a report: it makes room for each line of the text.
-ghost use Rattle.std.specs.Prelude.{◌≡◌, ◌+◌, ◌≤◌, length, IfOk, OnOk, vec_capacity};
-ghost use Rattle.reo_trace.specs.Passes.{all_steps, own_calls, all_calls, StepsFit, OwnFit, CallsFit, Fits};
+//! The first pass over a report: how many bytes its lines may take. It makes no line.
+ghost use Rattle.std.specs.Prelude.{◌≡◌, ℕ, ◌+◌, ◌<◌, ◌≤◌, ◌^◌, length, slice_get, flat_map, decimal, IfOk};
+ghost use Rattle.std.specs.Fmt.{signed_decimal};
+ghost use Rattle.reo_value.specs.declared.value.Value.TheVariants.{Sym};
+ghost use Rattle.reo_trace.specs.ReportText.{value_text, node_text, name_text, pair_text, op_text, step_line, call_line, end_text};
+ghost use Rattle.reo_trace.specs.Passes.{all_steps, own_calls, all_calls, piece, StepsFit, OwnFit, CallsFit, Fits};
 
-use crate::lines::{bytes_at, fill_call, fill_ending, fill_step};
+use crate::lines::bytes_at;
 use crate::{Called, Report};
 use reo_net::{Net, Step};
-use reo_value::Lexicon;
+use reo_value::{Lexicon, Num, Op, Value};
 use sqlite_items::Items;
 use std::alloc::AllocError;
 
-// The sum, where a `usize` holds it.
-fn added(total: usize, more: usize) -> Result<usize, AllocError>
+/// The sum, where a `usize` holds it.
+pub(crate) fn added(total: usize, more: usize) -> Result<usize, AllocError>
     ensures { IfOk result (λ sum. sum ≡ total + more) }
 {
     total.checked_add(more).ok_or(AllocError)
 }
 
-// Makes room for each line of a step, and returns the length of them all.
+fn number_room(number: Num) -> usize
+    ensures { length (signed_decimal number) ≤ result }
+{
+    let _integer = number.get();
+    20
+}
+
+fn decimal_room(number: u64) -> usize
+    ensures { length (decimal number) ≤ result }
+{
+    let _number = number;
+    20
+}
+
+fn text_room(texts: &Lexicon, text: u32) -> Result<usize, AllocError>
+    ensures { IfOk result (λ room. length (value_text texts.now (Sym text)) ≤ room) }
+{
+    let len = bytes_at(texts, text as usize).len();
+    let escaped = added(len, len)?;
+    added(escaped, 2)
+}
+
+fn value_room(texts: &Lexicon, value: Value) -> Result<usize, AllocError>
+    ensures { IfOk result (λ room. length (value_text texts.now value) ≤ room) }
+{
+    match value {
+        Value::Int(number) => Ok(number_room(number)),
+        Value::Sym(text) => text_room(texts, text),
+    }
+}
+
+fn node_room(net: &Net, nodes: &Lexicon, port: usize) -> usize
+    ensures { length (node_text nodes.now (slice_get net.now.ports port)) ≤ result }
+{
+    match net.ports().get(port) {
+        Some(port) => bytes_at(nodes, port.node as usize).len(),
+        None => 0,
+    }
+}
+
+fn end_room(place: u64) -> usize
+    ensures { length (end_text place) ≤ result }
+{
+    let _channel = place / 2;
+    22
+}
+
+fn name_room(net: &Net, nodes: &Lexicon, name: u32) -> Result<usize, AllocError>
+    ensures { IfOk result (λ room. length (name_text net.now nodes.now name) ≤ room) }
+{
+    let ports = net.ports();
+    let name = name as usize;
+    if name < ports.len() {
+        added(node_room(net, nodes, name), 1)
+    } else {
+        Ok(end_room((name - ports.len()) as u64))
+    }
+}
+
+fn pair_room(
+    net: &Net,
+    nodes: &Lexicon,
+    texts: &Lexicon,
+    pair: (u32, Value),
+) -> Result<usize, AllocError>
+    ensures { IfOk result (λ room. length (pair_text net.now nodes.now texts.now pair) ≤ room) }
+{
+    let name = name_room(net, nodes, pair.0)?;
+    let value = value_room(texts, pair.1)?;
+    added(2, added(name, value)?)
+}
+
+fn pairs_room(
+    net: &Net,
+    nodes: &Lexicon,
+    texts: &Lexicon,
+    pairs: &[(u32, Value)],
+) -> Result<usize, AllocError>
+    ensures { IfOk result (λ room. length (flat_map (pair_text net.now nodes.now texts.now) pairs.now) ≤ room) }
+{
+    let mut room = 0;
+    for pair in pairs {
+        room = added(room, pair_room(net, nodes, texts, *pair)?)?;
+    }
+    Ok(room)
+}
+
+fn step_room(net: &Net, nodes: &Lexicon, texts: &Lexicon, step: &Step) -> Result<usize, AllocError>
+    ensures { IfOk result (λ room. (number : ℕ) → number < 2 ^ 64 → length (step_line net.now nodes.now texts.now number step.now) ≤ room) }
+{
+    let pairs = pairs_room(net, nodes, texts, step.pairs.as_slice())?;
+    added(pairs, 26)
+}
+
+fn op_room(net: &Net, nodes: &Lexicon, op: Op) -> Result<usize, AllocError>
+    ensures { IfOk result (λ room. length (op_text net.now nodes.now op) ≤ room) }
+{
+    let port = match op {
+        Op::Put(port, _) => port,
+        Op::Get(port) => port,
+    };
+    added(5, node_room(net, nodes, port as usize))
+}
+
+fn call_room(
+    net: &Net,
+    nodes: &Lexicon,
+    texts: &Lexicon,
+    person: &[u8],
+    call: &Called,
+) -> Result<usize, AllocError>
+    ensures { IfOk result (λ room. length (call_line net.now nodes.now texts.now person.now call.now) ≤ room) }
+{
+    let op = op_room(net, nodes, call.op)?;
+    let value = value_room(texts, call.value)?;
+    let done = added(op, value)?;
+    let whole = added(person.len(), done)?;
+    let numbered = added(whole, decimal_room(call.number))?;
+    added(numbered, 11)
+}
+
+/// How many bytes lines may take: the longest, and all.
+#[derive(Clone, Copy)]
+struct Extent {
+    longest: usize,
+    all: usize,
+}
+
+fn one_line(line: usize) -> Extent
+    ensures { result ≡ record { longest = line; all = line } }
+{
+    Extent {
+        longest: line,
+        all: line,
+    }
+}
+
+// With lines more.
+fn with_lines(extent: Extent, lines: Extent) -> Result<Extent, AllocError>
+    ensures kept { IfOk result (λ more. extent.longest ≤ more.longest) }
+    ensures long { IfOk result (λ more. lines.longest ≤ more.longest) }
+    ensures all { IfOk result (λ more. more.all ≡ extent.all + lines.all) }
+{
+    let all = added(extent.all, lines.all)?;
+    Ok(Extent {
+        longest: extent.longest.max(lines.longest),
+        all,
+    })
+}
+
 fn measure_steps(
-    buffer: &mut Vec<u8>,
     net: &Net,
     nodes: &Lexicon,
     texts: &Lexicon,
     steps: &[Step],
-) -> Result<usize, AllocError>
-    ensures capacity { vec_capacity buffer.old ≤ vec_capacity buffer.new }
-    ensures total { IfOk result (λ total. total ≡ length (all_steps net.now nodes.now texts.now steps.now)) }
-    ensures room { OnOk result (StepsFit net.now nodes.now texts.now steps.now (length steps.now) (vec_capacity buffer.new)) }
+) -> Result<Extent, AllocError>
+    ensures total { IfOk result (λ extent. length (all_steps net.now nodes.now texts.now steps.now) ≤ extent.all) }
+    ensures room { IfOk result (λ extent. StepsFit net.now nodes.now texts.now steps.now (length steps.now) (piece + extent.longest)) }
 {
-    let mut total: usize = 0;
-    for (number, step) in steps.iter().enumerate() {
-        fill_step(buffer, net, nodes, texts, number, step)?;
-        total = added(total, buffer.len())?;
+    let mut extent = Extent { longest: 0, all: 0 };
+    for step in steps {
+        let line = step_room(net, nodes, texts, step)?;
+        extent = with_lines(extent, one_line(line))?;
     }
-    Ok(total)
+    Ok(extent)
 }
 
-// Makes room for each line of a component's call, and returns the length of them all.
 fn measure_own_calls(
-    buffer: &mut Vec<u8>,
     net: &Net,
     nodes: &Lexicon,
     texts: &Lexicon,
     person: &[u8],
     own: &[Called],
-) -> Result<usize, AllocError>
-    ensures capacity { vec_capacity buffer.old ≤ vec_capacity buffer.new }
-    ensures total { IfOk result (λ total. total ≡ length (own_calls net.now nodes.now texts.now person.now own.now)) }
-    ensures room { OnOk result (OwnFit net.now nodes.now texts.now person.now own.now (length own.now) (vec_capacity buffer.new)) }
+) -> Result<Extent, AllocError>
+    ensures total { IfOk result (λ extent. length (own_calls net.now nodes.now texts.now person.now own.now) ≤ extent.all) }
+    ensures room { IfOk result (λ extent. OwnFit net.now nodes.now texts.now person.now own.now (length own.now) (piece + extent.longest)) }
 {
-    let mut total: usize = 0;
+    let mut extent = Extent { longest: 0, all: 0 };
     for call in own {
-        fill_call(buffer, net, nodes, texts, person, call)?;
-        total = added(total, buffer.len())?;
+        let line = call_room(net, nodes, texts, person, call)?;
+        extent = with_lines(extent, one_line(line))?;
     }
-    Ok(total)
+    Ok(extent)
 }
 
-// Makes room for each line of a call, and returns the length of them all.
 fn measure_calls(
-    buffer: &mut Vec<u8>,
     net: &Net,
     nodes: &Lexicon,
     texts: &Lexicon,
     people: &Lexicon,
     calls: &[Items<Called>],
-) -> Result<usize, AllocError>
-    ensures capacity { vec_capacity buffer.old ≤ vec_capacity buffer.new }
-    ensures total { IfOk result (λ total. total ≡ length (all_calls net.now nodes.now texts.now people.now calls.now)) }
-    ensures room { OnOk result (CallsFit net.now nodes.now texts.now people.now calls.now (length calls.now) (vec_capacity buffer.new)) }
+) -> Result<Extent, AllocError>
+    ensures total { IfOk result (λ extent. length (all_calls net.now nodes.now texts.now people.now calls.now) ≤ extent.all) }
+    ensures room { IfOk result (λ extent. CallsFit net.now nodes.now texts.now people.now calls.now (length calls.now) (piece + extent.longest)) }
 {
-    let mut total: usize = 0;
+    let mut extent = Extent { longest: 0, all: 0 };
     for (number, own) in calls.iter().enumerate() {
         let person = bytes_at(people, number);
-        let length = measure_own_calls(buffer, net, nodes, texts, person, own.as_slice())?;
-        total = added(total, length)?;
+        let lines = measure_own_calls(net, nodes, texts, person, own.as_slice())?;
+        extent = with_lines(extent, lines)?;
     }
-    Ok(total)
+    Ok(extent)
 }
 
-// Makes room for each line. It fails too where a `usize` does not count the bytes of them all.
+/// How many bytes the longest line may take. It fails where a `usize` does not count those of all lines.
 pub(crate) fn measure(
-    buffer: &mut Vec<u8>,
     net: &Net,
     nodes: &Lexicon,
     texts: &Lexicon,
     people: &Lexicon,
     report: &Report,
-) -> Result<(), AllocError>
-    ensures { OnOk result (Fits net.now nodes.now texts.now people.now report.now (vec_capacity buffer.new)) }
+) -> Result<usize, AllocError>
+    ensures { IfOk result (λ longest. Fits net.now nodes.now texts.now people.now report.now (piece + longest)) }
 {
-    let steps = measure_steps(buffer, net, nodes, texts, report.steps.as_slice())?;
-    let calls = measure_calls(buffer, net, nodes, texts, people, report.calls.as_slice())?;
-    fill_ending(buffer, report.ending)?;
-    added(added(steps, calls)?, buffer.len())?;
-    Ok(())
+    let steps = measure_steps(net, nodes, texts, report.steps.as_slice())?;
+    let calls = measure_calls(net, nodes, texts, people, report.calls.as_slice())?;
+    let lines = with_lines(steps, calls)?;
+    let all = with_lines(lines, one_line(10))?;
+    Ok(all.longest)
 }

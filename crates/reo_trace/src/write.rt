@@ -1,15 +1,17 @@
 //! The writing of a report's text to a sink.
-ghost use Rattle.std.specs.Prelude.{◌≡◌, ◌<◌, ◌≤◌, ◌^◌, length, take, IfOk, OnOk, IsErrOf, vec_capacity};
+ghost use Rattle.std.specs.Prelude.{◌≡◌, ◌+◌, ◌<◌, ◌≤◌, ◌^◌, [], length, take, OnOk, IsErrOf, vec_capacity};
 ghost use Rattle.reo_base.specs.Faults.{Rose, HasCause};
 ghost use Rattle.reo_base.specs.Streams.{IsExtended};
 ghost use Rattle.reo_trace.specs.declared.write.WriteRefusal.TheVariants.{Fault, NoMemory};
 ghost use Rattle.reo_trace.specs.ReportText.{step_line, call_line, end_line, report_text};
-ghost use Rattle.reo_trace.specs.Passes.{all_steps, own_calls, all_calls, StepsFit, OwnFit, CallsFit, Fits, Writes, IfFault};
+ghost use Rattle.reo_trace.specs.Passes.{all_steps, own_calls, all_calls, all_lines, StepsFit, OwnFit, CallsFit, Fits, IfFault, piece};
+ghost use Rattle.reo_trace.specs.Pieces.{Takes};
 
-use crate::lines::{bytes_at, fill_call, fill_ending, fill_step};
-use crate::measure::measure;
+use crate::gather::{Gather, PIECE, flush, hand_on};
+use crate::lines::{bytes_at, push_call, push_ending, push_step};
+use crate::measure::{added, measure};
 use crate::{Called, Ending, Report};
-use reo_base::{Sink, WriteFault, write_whole};
+use reo_base::{Failed, Sink};
 use reo_net::{Net, Step};
 use reo_value::Lexicon;
 use sqlite_items::Items;
@@ -37,208 +39,151 @@ impl From<AllocError> for WriteRefusal {
     }
 }
 
-impl From<WriteFault> for WriteRefusal {
-    ghost from_gives = { λ fault refusal. refusal ≡ Fault fault.written };
-
-    fn from(fault: WriteFault) -> Self {
-        WriteRefusal::Fault(fault.written)
-    }
-}
-
-// Writes a line, and returns its length.
-fn write_line<K: Sink>(out: &mut K, line: &[u8]) -> Result<usize, WriteFault>
-    ensures written { Writes (K.written out.old) (K.written out.new) result line.now }
-    ensures count { IfOk result (λ count. count ≡ length line.now) }
-    ensures cause { HasCause (K.faults out.old) (K.faults out.new) result }
-{
-    write_whole(out, line)?;
-    Ok(line.len())
-}
-
 fn write_step<K: Sink>(
     out: &mut K,
-    buffer: &mut Vec<u8>,
+    gather: &mut Gather,
     net: &Net,
     nodes: &Lexicon,
     texts: &Lexicon,
     number: usize,
     step: &Step,
-) -> Result<usize, WriteFault>
-    requires { length (step_line net.now nodes.now texts.now number step.now) ≤ vec_capacity buffer.old }
-    ensures capacity { vec_capacity buffer.old ≤ vec_capacity buffer.new }
-    ensures written { Writes (K.written out.old) (K.written out.new) result (step_line net.now nodes.now texts.now number step.now) }
-    ensures count { IfOk result (λ count. count ≡ length (step_line net.now nodes.now texts.now number step.now)) }
+) -> Result<(), Failed>
+    requires room { piece + length (step_line net.now nodes.now texts.now number step.now) ≤ vec_capacity gather.old.held }
+    requires total { gather.old.handed + length gather.old.held.items + length (step_line net.now nodes.now texts.now number step.now) < 2 ^ 64 }
+    ensures taken { Takes (K.written out.old) (K.written out.new) gather.old.held.items gather.new.held.items gather.old.handed gather.new.handed result (step_line net.now nodes.now texts.now number step.now) }
+    ensures capacity { vec_capacity gather.old.held ≤ vec_capacity gather.new.held }
     ensures cause { HasCause (K.faults out.old) (K.faults out.new) result }
 {
-    let Ok(()) = fill_step(buffer, net, nodes, texts, number, step) else {
+    hand_on(out, gather)?;
+    let Ok(()) = push_step(&mut gather.held, net, nodes, texts, number as u64, step) else {
         unreachable!();
     };
-    write_line(out, buffer.as_slice())
+    Ok(())
 }
 
 fn write_call<K: Sink>(
     out: &mut K,
-    buffer: &mut Vec<u8>,
+    gather: &mut Gather,
     net: &Net,
     nodes: &Lexicon,
     texts: &Lexicon,
     person: &[u8],
     call: &Called,
-) -> Result<usize, WriteFault>
-    requires { length (call_line net.now nodes.now texts.now person.now call.now) ≤ vec_capacity buffer.old }
-    ensures capacity { vec_capacity buffer.old ≤ vec_capacity buffer.new }
-    ensures written { Writes (K.written out.old) (K.written out.new) result (call_line net.now nodes.now texts.now person.now call.now) }
-    ensures count { IfOk result (λ count. count ≡ length (call_line net.now nodes.now texts.now person.now call.now)) }
+) -> Result<(), Failed>
+    requires room { piece + length (call_line net.now nodes.now texts.now person.now call.now) ≤ vec_capacity gather.old.held }
+    requires total { gather.old.handed + length gather.old.held.items + length (call_line net.now nodes.now texts.now person.now call.now) < 2 ^ 64 }
+    ensures taken { Takes (K.written out.old) (K.written out.new) gather.old.held.items gather.new.held.items gather.old.handed gather.new.handed result (call_line net.now nodes.now texts.now person.now call.now) }
+    ensures capacity { vec_capacity gather.old.held ≤ vec_capacity gather.new.held }
     ensures cause { HasCause (K.faults out.old) (K.faults out.new) result }
 {
-    let Ok(()) = fill_call(buffer, net, nodes, texts, person, call) else {
+    hand_on(out, gather)?;
+    let Ok(()) = push_call(&mut gather.held, net, nodes, texts, person, call) else {
         unreachable!();
     };
-    write_line(out, buffer.as_slice())
+    Ok(())
 }
 
-fn write_ending<K: Sink>(
-    out: &mut K,
-    buffer: &mut Vec<u8>,
-    ending: Ending,
-) -> Result<(), WriteFault>
-    requires { length (end_line ending) ≤ vec_capacity buffer.old }
-    ensures written { Writes (K.written out.old) (K.written out.new) result (end_line ending) }
+fn write_ending<K: Sink>(out: &mut K, gather: &mut Gather, ending: Ending) -> Result<(), Failed>
+    requires room { piece + length (end_line ending) ≤ vec_capacity gather.old.held }
+    requires total { gather.old.handed + length gather.old.held.items + length (end_line ending) < 2 ^ 64 }
+    ensures taken { Takes (K.written out.old) (K.written out.new) gather.old.held.items gather.new.held.items gather.old.handed gather.new.handed result (end_line ending) }
+    ensures capacity { vec_capacity gather.old.held ≤ vec_capacity gather.new.held }
     ensures cause { HasCause (K.faults out.old) (K.faults out.new) result }
 {
-    let Ok(()) = fill_ending(buffer, ending) else {
+    hand_on(out, gather)?;
+    let Ok(()) = push_ending(&mut gather.held, ending) else {
         unreachable!();
     };
-    write_whole(out, buffer.as_slice())
+    Ok(())
 }
 
 fn write_steps<K: Sink>(
     out: &mut K,
-    buffer: &mut Vec<u8>,
+    gather: &mut Gather,
     net: &Net,
     nodes: &Lexicon,
     texts: &Lexicon,
     steps: &[Step],
-) -> Result<usize, WriteFault>
-    requires room { StepsFit net.now nodes.now texts.now steps.now (length steps.now) (vec_capacity buffer.old) }
-    requires total { length (all_steps net.now nodes.now texts.now steps.now) < 2 ^ 64 }
-    ensures capacity { vec_capacity buffer.old ≤ vec_capacity buffer.new }
-    ensures written { Writes (K.written out.old) (K.written out.new) result (all_steps net.now nodes.now texts.now steps.now) }
-    ensures count { IfOk result (λ count. count ≡ length (all_steps net.now nodes.now texts.now steps.now)) }
+) -> Result<(), Failed>
+    requires room { StepsFit net.now nodes.now texts.now steps.now (length steps.now) (vec_capacity gather.old.held) }
+    requires total { gather.old.handed + length gather.old.held.items + length (all_steps net.now nodes.now texts.now steps.now) < 2 ^ 64 }
+    ensures taken { Takes (K.written out.old) (K.written out.new) gather.old.held.items gather.new.held.items gather.old.handed gather.new.handed result (all_steps net.now nodes.now texts.now steps.now) }
+    ensures capacity { vec_capacity gather.old.held ≤ vec_capacity gather.new.held }
     ensures cause { HasCause (K.faults out.old) (K.faults out.new) result }
 {
-    let mut written = 0;
     for (number, step) in steps.iter().enumerate() {
-        match write_step(out, buffer, net, nodes, texts, number, step) {
-            Ok(count) => written += count,
-            Err(fault) => {
-                return Err(WriteFault {
-                    written: written + fault.written,
-                });
-            }
-        }
+        write_step(out, gather, net, nodes, texts, number, step)?;
     }
-    Ok(written)
+    Ok(())
 }
 
 fn write_own_calls<K: Sink>(
     out: &mut K,
-    buffer: &mut Vec<u8>,
+    gather: &mut Gather,
     net: &Net,
     nodes: &Lexicon,
     texts: &Lexicon,
     person: &[u8],
     own: &[Called],
-) -> Result<usize, WriteFault>
-    requires room { OwnFit net.now nodes.now texts.now person.now own.now (length own.now) (vec_capacity buffer.old) }
-    requires total { length (own_calls net.now nodes.now texts.now person.now own.now) < 2 ^ 64 }
-    ensures capacity { vec_capacity buffer.old ≤ vec_capacity buffer.new }
-    ensures written { Writes (K.written out.old) (K.written out.new) result (own_calls net.now nodes.now texts.now person.now own.now) }
-    ensures count { IfOk result (λ count. count ≡ length (own_calls net.now nodes.now texts.now person.now own.now)) }
+) -> Result<(), Failed>
+    requires room { OwnFit net.now nodes.now texts.now person.now own.now (length own.now) (vec_capacity gather.old.held) }
+    requires total { gather.old.handed + length gather.old.held.items + length (own_calls net.now nodes.now texts.now person.now own.now) < 2 ^ 64 }
+    ensures taken { Takes (K.written out.old) (K.written out.new) gather.old.held.items gather.new.held.items gather.old.handed gather.new.handed result (own_calls net.now nodes.now texts.now person.now own.now) }
+    ensures capacity { vec_capacity gather.old.held ≤ vec_capacity gather.new.held }
     ensures cause { HasCause (K.faults out.old) (K.faults out.new) result }
 {
-    let mut written = 0;
     for call in own {
-        match write_call(out, buffer, net, nodes, texts, person, call) {
-            Ok(count) => written += count,
-            Err(fault) => {
-                return Err(WriteFault {
-                    written: written + fault.written,
-                });
-            }
-        }
+        write_call(out, gather, net, nodes, texts, person, call)?;
     }
-    Ok(written)
+    Ok(())
 }
 
 fn write_calls<K: Sink>(
     out: &mut K,
-    buffer: &mut Vec<u8>,
+    gather: &mut Gather,
     net: &Net,
     nodes: &Lexicon,
     texts: &Lexicon,
     people: &Lexicon,
     calls: &[Items<Called>],
-) -> Result<usize, WriteFault>
-    requires room { CallsFit net.now nodes.now texts.now people.now calls.now (length calls.now) (vec_capacity buffer.old) }
-    requires total { length (all_calls net.now nodes.now texts.now people.now calls.now) < 2 ^ 64 }
-    ensures capacity { vec_capacity buffer.old ≤ vec_capacity buffer.new }
-    ensures written { Writes (K.written out.old) (K.written out.new) result (all_calls net.now nodes.now texts.now people.now calls.now) }
-    ensures count { IfOk result (λ count. count ≡ length (all_calls net.now nodes.now texts.now people.now calls.now)) }
+) -> Result<(), Failed>
+    requires room { CallsFit net.now nodes.now texts.now people.now calls.now (length calls.now) (vec_capacity gather.old.held) }
+    requires total { gather.old.handed + length gather.old.held.items + length (all_calls net.now nodes.now texts.now people.now calls.now) < 2 ^ 64 }
+    ensures taken { Takes (K.written out.old) (K.written out.new) gather.old.held.items gather.new.held.items gather.old.handed gather.new.handed result (all_calls net.now nodes.now texts.now people.now calls.now) }
+    ensures capacity { vec_capacity gather.old.held ≤ vec_capacity gather.new.held }
     ensures cause { HasCause (K.faults out.old) (K.faults out.new) result }
 {
-    let mut written = 0;
     for (number, own) in calls.iter().enumerate() {
         let person = bytes_at(people, number);
-        match write_own_calls(out, buffer, net, nodes, texts, person, own.as_slice()) {
-            Ok(count) => written += count,
-            Err(fault) => {
-                return Err(WriteFault {
-                    written: written + fault.written,
-                });
-            }
-        }
+        write_own_calls(out, gather, net, nodes, texts, person, own.as_slice())?;
     }
-    Ok(written)
+    Ok(())
 }
 
-// The second pass: it writes each line, for which the buffer has room.
+// The second pass: it writes each line, for which there is room behind a piece.
 fn write_lines<K: Sink>(
     out: &mut K,
-    buffer: &mut Vec<u8>,
+    gather: &mut Gather,
     net: &Net,
     nodes: &Lexicon,
     texts: &Lexicon,
     people: &Lexicon,
     report: &Report,
-) -> Result<(), WriteFault>
-    requires { Fits net.now nodes.now texts.now people.now report.now (vec_capacity buffer.old) }
-    ensures written { Writes (K.written out.old) (K.written out.new) result (report_text net.now nodes.now texts.now people.now report.now) }
+) -> Result<(), Failed>
+    requires room { Fits net.now nodes.now texts.now people.now report.now (vec_capacity gather.old.held) }
+    requires total { gather.old.handed + length gather.old.held.items + length (all_lines net.now nodes.now texts.now people.now report.now) < 2 ^ 64 }
+    ensures taken { Takes (K.written out.old) (K.written out.new) gather.old.held.items gather.new.held.items gather.old.handed gather.new.handed result (all_lines net.now nodes.now texts.now people.now report.now) }
+    ensures all { OnOk result (gather.new.held.items ≡ []) }
     ensures cause { HasCause (K.faults out.old) (K.faults out.new) result }
 {
-    let steps = write_steps(out, buffer, net, nodes, texts, report.steps.as_slice())?;
-    match write_calls(
-        out,
-        buffer,
-        net,
-        nodes,
-        texts,
-        people,
-        report.calls.as_slice(),
-    ) {
-        Ok(calls) => match write_ending(out, buffer, report.ending) {
-            Ok(()) => Ok(()),
-            Err(fault) => Err(WriteFault {
-                written: steps + calls + fault.written,
-            }),
-        },
-        Err(fault) => Err(WriteFault {
-            written: steps + fault.written,
-        }),
-    }
+    write_steps(out, gather, net, nodes, texts, report.steps.as_slice())?;
+    let calls = report.calls.as_slice();
+    write_calls(out, gather, net, nodes, texts, people, calls)?;
+    write_ending(out, gather, report.ending)?;
+    flush(out, gather)
 }
 
-/// Writes the text of a report, line by line. A name that is not there is written as no bytes.
+/// Writes the text of a report, in pieces of about 64 KiB. A name that is not there is written as no bytes.
 pub fn write_report<K: Sink>(
     alloc: Global,
     out: &mut K,
@@ -256,8 +201,11 @@ pub fn write_report<K: Sink>(
     ensures later { K.faults out.old ≤ K.faults out.new }
     ensures kept { OnOk result (K.faults out.new ≡ K.faults out.old) }
 {
-    let mut line = Vec::new(alloc);
-    measure(&mut line, net, nodes, texts, people, report)?;
-    write_lines(out, &mut line, net, nodes, texts, people, report)?;
-    Ok(())
+    let most = measure(net, nodes, texts, people, report)?;
+    let room = added(PIECE, most)?;
+    let mut gather = Gather::new(alloc, room)?;
+    match write_lines(out, &mut gather, net, nodes, texts, people, report) {
+        Ok(()) => Ok(()),
+        Err(Failed) => Err(WriteRefusal::Fault(gather.handed)),
+    }
 }

@@ -6,14 +6,12 @@ use Rattle.reo_trace.proofs.measure.measure_own_calls.Goals as goal
 pub loop-call-preserved : goal.loop-call-preserved
 loop-call-preserved c = record {
   fits = LinesFit-next (λ _. call_line c.args.net.now c.args.nodes.now c.args.texts.now c.args.person.now) _ _ c.call-item.result _ _ _ c.loop-call-test.true (sym c.call-item.is)
-      c.in_ok-fill_call.ensures.capacity (omega (arith, c.in_ok-fill_call.ensures.len, c.fill_call.new.buffer.ok)) c.loop-call.invariant.fits;
+      (omega (arith, c.in_ok-extent.ensures.kept)) (omega (arith, c.in_ok-line.ensures, rw c.one_line.ensures at c.in_ok-extent.ensures.long)) c.loop-call.invariant.fits;
   total = omega (
     arith,
     length-numbered-next (λ _. call_line c.args.net.now c.args.nodes.now c.args.texts.now c.args.person.now) _ _ c.call-item.result _ c.loop-call-test.true (sym c.call-item.is),
     c.loop-call.invariant.total,
-    c.in_ok-total.ensures,
-    c.len.ensures,
-    c.in_ok-fill_call.ensures.len,
+    rw c.one_line.ensures at c.in_ok-extent.ensures.all,
+    c.in_ok-line.ensures,
   );
-  capacity = omega (arith, c.loop-call.invariant.capacity, c.in_ok-fill_call.ensures.capacity);
 }

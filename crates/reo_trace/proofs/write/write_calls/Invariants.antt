@@ -1,12 +1,11 @@
-use Rattle.std.proofs.Common.{◌≡◌, ◌≤◌, length, take, vec_capacity}
-use Rattle.reo_base.specs.Streams.{IsExtended}
+use Rattle.std.proofs.Common.{◌≡◌, ◌≤◌, take, vec_capacity}
 use Rattle.reo_trace.specs.Passes.{all_calls}
+use Rattle.reo_trace.specs.Pieces.{IsTaken}
 use Rattle.reo_trace.proofs.write.write_calls.Given as goal
 
 abbrev pub invariant-loop-number : goal.invariant-loop-number
 invariant-loop-number g l = record {
-  extended : IsExtended (g.K.Sink.written l.initial.out) (g.K.Sink.written l.out) (all_calls l.net l.nodes l.texts l.people (take l.number l.calls));
-  written : l.written ≡ length (all_calls l.net l.nodes l.texts l.people (take l.number l.calls));
+  taken : IsTaken (g.K.Sink.written l.initial.out) (g.K.Sink.written l.out) l.initial.gather.held.items l.gather.held.items l.initial.gather.handed l.gather.handed (all_calls l.net l.nodes l.texts l.people (take l.number l.calls));
   kept : g.K.Sink.faults l.out ≡ g.K.Sink.faults l.initial.out;
-  capacity : vec_capacity l.initial.buffer ≤ vec_capacity l.buffer;
+  capacity : vec_capacity l.initial.gather.held ≤ vec_capacity l.gather.held;
 }
