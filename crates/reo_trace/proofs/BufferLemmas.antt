@@ -1,5 +1,5 @@
 -- How the pushes of parts make up that of a whole.
-use Rattle.std.proofs.Common.{◌≡◌, ℕ, ◌+◌, ◌<◌, List, [], ◌++◌, length, take, get_or, Result, Ok, Err, sym, ap, ◌∙◌, arith, append_assoc, append-nil, length-append, subst}
+use Rattle.std.proofs.Common.{◌≡◌, ℕ, ◌+◌, ◌<◌, List, ◌++◌, length, take, get_or, Result, Ok, Err, sym, ap, ◌∙◌, arith, append_assoc, length-append, subst}
 use Rattle.std.specs.Result.{IsErr}
 use Rattle.std.specs.Prelude.{Vec}
 use Rattle.std.specs.List.{flat_map}
@@ -29,13 +29,6 @@ LacksRoom-trans a b c x y p q = record {
 pub Takes-trans : {Z T E : Type 0} (a b c : Vec ℕ Z) (r : Result T E) (x y : List ℕ) → HasTaken a b x → Takes b c r y → Takes a c r (x ++ y)
 Takes-trans a b c (Ok done) x y p q = HasTaken-trans a b c x y p q
 Takes-trans a b c (Err e) x y p q = LacksRoom-trans a b c x y p q
-
-pub HasTaken-none : {Z : Type 0} (a : Vec ℕ Z) → HasTaken a a []
-HasTaken-none a = record {
-  items = sym (append-nil a.items);
-  len = omega arith;
-  capacity = omega arith;
-}
 
 -- one more of a list's texts
 pub HasTaken-next : {A Z : Type 0} (f : A → List ℕ) (a b c : Vec ℕ Z) (xs : List A) (i : ℕ) (x d : A) → i < length xs → get_or xs i d ≡ x

@@ -85,12 +85,6 @@ pub LinesFit-next : {A : Type 0} (f : ℕ → A → List ℕ) (xs : List A) (i :
 LinesFit-next f xs i x d room more lt same grows here below =
     EachUpTo-next (λ k y. piece + length (f k y) ≤ room) (λ k y. piece + length (f k y) ≤ more) xs i x d lt same (λ k y le. omega arith) here below
 
--- one of the lines that fit
-pub LinesFit-at : {A : Type 0} (f : ℕ → A → List ℕ) (xs : List A) (n i : ℕ) (x d : A) (room more : ℕ) → EachUpTo (λ k y. piece + length (f k y) ≤ room) xs n → i < n → get_or xs i d ≡ x → room ≤ more → piece + length (f i x) ≤ more
-LinesFit-at f xs n i x d room more fits lt same grows =
-    let le : piece + length (f i (get_or xs i d)) ≤ room = fits.each i d lt in
-    omega (arith, le, ap (λ y. length (f i y)) same, grows)
-
 pub LinesFit-weaken : {A : Type 0} (f : ℕ → A → List ℕ) (xs : List A) (n room more : ℕ) → room ≤ more → EachUpTo (λ k y. piece + length (f k y) ≤ room) xs n → EachUpTo (λ k y. piece + length (f k y) ≤ more) xs n
 LinesFit-weaken f xs n room more grows fits = EachUpTo-weaken (λ k y. piece + length (f k y) ≤ room) (λ k y. piece + length (f k y) ≤ more) xs n (λ k y le. omega arith) fits
 
@@ -106,9 +100,3 @@ pub CallsFit-next : (c : RawCircuit) (nodes texts people : List (List ℕ)) (cal
 CallsFit-next c nodes texts people calls i own d room more lt same grows here below =
     EachUpTo-next (λ k own. OwnFit c nodes texts (text_at people k) own (length own) room) (λ k own. OwnFit c nodes texts (text_at people k) own (length own) more) calls i own d lt same
     (λ k own own_fits. LinesFit-weaken (λ _. call_line c nodes texts (text_at people k)) own (length own) room more grows own_fits) here below
-
-pub CallsFit-at : (c : RawCircuit) (nodes texts people : List (List ℕ)) (calls : List (List Called)) (n i : ℕ) (own d : List Called) (room more : ℕ)
-    → CallsFit c nodes texts people calls n room → i < n → get_or calls i d ≡ own → room ≤ more → OwnFit c nodes texts (text_at people i) own (length own) more
-CallsFit-at c nodes texts people calls n i own d room more fits lt same grows =
-    LinesFit-weaken (λ _. call_line c nodes texts (text_at people i)) own (length own) room more grows
-    (subst (λ y. OwnFit c nodes texts (text_at people i) y (length y) room) same (fits.each i d lt))

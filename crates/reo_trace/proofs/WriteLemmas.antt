@@ -1,10 +1,9 @@
 -- How the pieces of parts make up those of a whole.
-use Rattle.std.proofs.Common.{◌≡◌, ℕ, ◌+◌, ◌<◌, ◌≤◌, List, [], ◌++◌, length, take, drop, get_or, Ok, Err, Result, Some, sym, ap, ◌∙◌, arith, append_assoc, append-nil, length-append, take-append-drop, subst}
+use Rattle.std.proofs.Common.{◌≡◌, ℕ, ◌+◌, ◌<◌, List, [], ◌++◌, length, take, drop, get_or, Ok, Err, Result, Some, sym, ap, ◌∙◌, arith, append_assoc, append-nil, length-append, take-append-drop, subst}
 use Rattle.std.proofs.lemmas.List.{length-take-le}
 use Rattle.std.specs.Result.{IsErr}
 use Rattle.std.proofs.Math.Seq.{take-append_seam}
 use Rattle.std.specs.declared.option.Option.{Option}
-use Rattle.reo_base.specs.Faults.{HasCause}
 use Rattle.reo_base.specs.Streams.{IsExtended}
 use Rattle.reo_trace.specs.Passes.{numbered}
 use Rattle.reo_trace.specs.Pieces.{IsHanded, IsTaken, IsBroken, Takes}
@@ -29,13 +28,6 @@ IsHanded-trans a b c n m k x y p q = record {
 joined : (h p q r g x y : List ℕ) → p ++ g ≡ h ++ x → q ++ r ≡ g ++ y → (p ++ q) ++ r ≡ h ++ (x ++ y)
 joined h p q r g x y one two =
     append_assoc p q r ∙ ap (λ l. p ++ l) two ∙ sym (append_assoc p g y) ∙ ap (λ l. l ++ y) one ∙ append_assoc h x y
-
-pub taken-none : (a : Option (List ℕ)) (h : List ℕ) (n : ℕ) → IsTaken a a h h n n []
-taken-none a h n = record {
-  bytes = [];
-  handed = record { extended = IsExtended-none a; count = omega arith };
-  same = sym (append-nil h);
-}
 
 pub taken-trans : (a b c : Option (List ℕ)) (h g r : List ℕ) (n m k : ℕ) (x y : List ℕ) → IsTaken a b h g n m x → IsTaken b c g r m k y → IsTaken a c h r n k (x ++ y)
 taken-trans a b c h g r n m k x y p q = record {
@@ -69,14 +61,6 @@ takes-after a b c h g r n m k (Err error) x y p q = broken-after a b c h g n m k
 -- what was handed on and what is held back are as long as all that came
 pub taken-long : (a b : Option (List ℕ)) (h g : List ℕ) (n m : ℕ) (x : List ℕ) → IsTaken a b h g n m x → m + length g ≡ n + length h + length x
 taken-long a b h g n m x p = omega (arith, p.handed.count, ap length p.same, length-append p.bytes g, length-append h x)
-
--- a line was put behind what is held back
-pub taken-pushed : (a b : Option (List ℕ)) (h g r : List ℕ) (n m : ℕ) (line : List ℕ) → IsTaken a b h g n m [] → r ≡ g ++ line → IsTaken a b h r n m line
-taken-pushed a b h g r n m line p pushed = record {
-  bytes = p.bytes;
-  handed = p.handed;
-  same = ap (λ l. p.bytes ++ l) pushed ∙ sym (append_assoc p.bytes g line) ∙ ap (λ l. l ++ line) (p.same ∙ append-nil h);
-}
 
 -- one more of the texts is taken
 pub taken-next : {A : Type 0} (f : ℕ → A → List ℕ) (xs : List A) (i : ℕ) (x : A) (a b c : Option (List ℕ)) (h g r : List ℕ) (n m k : ℕ) → i < length xs → x ≡ get_or xs i x
@@ -131,13 +115,3 @@ takes-err a b h g n m (Err error) text is_err broken = broken
 pub takes-flushed : {T E : Type 0} (a b c : Option (List ℕ)) (h g r : List ℕ) (n m k : ℕ) (result : Result T E) (x : List ℕ) → IsTaken a b h g n m x → Takes b c g r m k result [] → Takes a c h r n k result x
 takes-flushed a b c h g r n m k result x p q =
     subst (λ l. Takes a c h r n k result l) (append-nil x) (takes-after a b c h g r n m k result x [] p q)
-
-pub HasCause-after : {S T E F : Type 0} (a b c : ℕ) (e : E) (f : F) → a ≤ b → HasCause {T = S} b c (Err e) → HasCause {T = T} a c (Err f)
-HasCause-after a b c e f before now = record {
-  later = omega (arith, now.later);
-  failed = omega (arith, now.failed);
-  kept = tt;
-}
-
-pub HasCause-ok : {T E : Type 0} (a b : ℕ) (done : T) → b ≡ a → HasCause {E = E} a b (Ok done)
-HasCause-ok a b done kept = record { later = omega arith; failed = tt; kept = kept }
