@@ -26,7 +26,7 @@ use Rattle.reo_sentence.specs.Limits.{small_remainder, small_length}
 use Rattle.reo_sentence.specs.Numbered.{mod_guard}
 use Rattle.reo_sentence.specs.Reading.{left, next_key, next_symbol, next_number, next_text, next_const, Takes, Advances, Goes, Notes, Reads, ReadsText, ReadsConst, Refuses}
 use Rattle.reo_sentence.specs.GuardReading.{Completes, StopsIn}
-use Rattle.reo_sentence.proofs.ReadingLemmas.{symbol_taken, Goes-left, Goes-one, Halts-behind, Reads-then_as, Reads-behind, Reads-noted, notes_nothing}
+use Rattle.reo_sentence.proofs.ReadingLemmas.{symbol_taken, Goes-left, Goes-one, Halts-behind, Reads-then_as, Reads-behind, Reads-noted, notes_nothing, no_more}
 
 pub IfOk-with : {V E : Type 0} (result : Result V E) (P Q : V → Type 0) → ((v : V) → P v → Q v) → IfOk result P → IfOk result Q
 IfOk-with (Ok v) P Q f p = f v p
@@ -163,7 +163,7 @@ completes_mod old new last known divisor remainder parts made takes is notes val
   whole = refl;
   reads =
       Reads-noted old new last known known (Number remainder) (is_none parts) false _ false _ made takes notes (ap is_none is) refl
-      (λ some l. ap (λ g. (known, g)) (sym (mod_value parts made some value ∙ ap mod_guard is)));
+      (λ some l. ap (λ g. (known, g)) (sym (mod_value parts made some value ∙ ap mod_guard is))) (no_more known);
 }
 
 -- Behind is.
@@ -177,7 +177,7 @@ stuck_is (token ∷ tokens) not_int not_text = by (token_key token) not_int not_
     by k not_int not_text = refl
 
 pub plain_reads : {V : Type 0} (old new : Cursor) (known : List (List ℕ)) (token : Token) (value : V) → Takes old new token → Reads old new known known (token ∷ []) false false (λ texts. (texts, value)) value
-plain_reads old new known token value takes = Reads-noted old new new known known token false false false false _ value takes (nothing new) refl refl (λ w l. refl)
+plain_reads old new known token value takes = Reads-noted old new new known known token false false false false _ value takes (nothing new) refl refl (λ w l. refl) (no_more known)
   where
     nothing : (cursor : Cursor) → Notes cursor cursor false false
     nothing cursor = notes_nothing cursor
@@ -213,7 +213,7 @@ completes_length old new last known value most made takes is notes given = recor
   whole = refl;
   reads =
       Reads-noted old new last known known (Number value) (is_none most) false _ false _ made takes notes (ap is_none is) refl
-      (λ some l. ap (λ g. (known, g)) (sym (most_value most made some given ∙ ap (λ m. guard.LenAtMost (unwrap_or m 0)) is)));
+      (λ some l. ap (λ g. (known, g)) (sym (most_value most made some given ∙ ap (λ m. guard.LenAtMost (unwrap_or m 0)) is))) (no_more known);
 }
 
 -- Behind starts.

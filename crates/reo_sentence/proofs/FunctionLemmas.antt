@@ -35,6 +35,7 @@ Reads-as old new known texts front other wide long wide_is long_is numbers numbe
   wide_noted = reads.wide_noted ∙ ap (λ w. old.is_wide || w) same_wide;
   long_noted = reads.long_noted ∙ ap (λ w. old.is_long || w) same_long;
   numbered = λ w l. same (reads.numbered w l);
+  few = reads.few;
 }
 
 -- Where the reader stops.

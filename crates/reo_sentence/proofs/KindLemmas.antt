@@ -1,5 +1,5 @@
 -- What stands behind a channel's nodes, kind by kind.
-use Rattle.std.proofs.Common.{◌≡◌, ◌≢◌, ℕ, false, List, [], ◌∷◌, Option, Some, None, refl, sym, ap, subst, ◌∙◌}
+use Rattle.std.proofs.Common.{arith, ◌≡◌, ◌≢◌, ℕ, false, List, [], ◌∷◌, Option, Some, None, refl, sym, ap, subst, ◌∙◌}
 use Rattle.std.specs.Option.{option_map}
 use Rattle.std.proofs.lemmas.Bool.{false≢true}
 use Rattle.reo_value.specs.declared.value.Value.{Value}
@@ -37,6 +37,7 @@ reads_nothing cursor known value = record {
   wide_noted = sym (or_false cursor.is_wide);
   long_noted = sym (or_false cursor.is_long);
   numbered = λ w l. refl;
+  few = omega arith;
 }
 
 sync_none : (tokens : List Token) → NoStep kind_step (Whole Sync) tokens

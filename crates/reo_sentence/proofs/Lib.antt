@@ -1,5 +1,7 @@
 pub mod ListLemmas
 pub mod SeenLemmas
+pub mod Utf8Lemmas
+pub mod QuoteLemmas
 pub mod ReadingLemmas
 pub mod AtomLemmas
 pub mod GuardLemmas

@@ -16,7 +16,7 @@ use Rattle.reo_sentence.specs.declared.stop.Stop.{Stop}
 use Rattle.reo_sentence.specs.declared.stop.Stop.TheVariants as stop
 use Rattle.reo_sentence.specs.declared.said.Name.{Name}
 use Rattle.reo_sentence.specs.declared.said.Sentence.TheVariants as sentence
-use Rattle.reo_sentence.specs.Said.{numbered_kind, PortSaid, ChannelSaid, ComponentSaid, PutSaid, GetSaid, name_at}
+use Rattle.reo_sentence.specs.Said.{numbered_kind, PortSaid, ChannelSaid, ComponentSaid, PutSaid, GetSaid, name_at, StandsIn}
 use Rattle.reo_sentence.specs.Numbered.{numbered_const}
 use Rattle.reo_sentence.specs.Reading.{left, next_const, Goes, ReadsConst, Halts, Refuses}
 use Rattle.reo_sentence.specs.LineReading.{name_of, next_name, TakesName, NoStep, ReadsKind, Finishes, StopsLine, StopsKind}
@@ -136,45 +136,48 @@ stops_kind channel a b old new stop.Syntax halts place = Halts-kind a b place (b
 stops_kind channel a b old new stop.NoMemory halts place = tt
 
 -- What was read to its end.
-pub finishes_port : (way : Way) (old new : Cursor) (known : List (List ℕ)) (node : Name) → TakesName old new (name_at old.line.now node) → left new ≡ []
+pub finishes_port : (way : Way) (old new : Cursor) (known : List (List ℕ)) (node : Name) → TakesName old new (name_at old.line.now node) → StandsIn (length old.line.now) node → left new ≡ []
     → Finishes (WantNode way) old new known known (sentence.Port way node)
-finishes_port way old new known node takes over = record {
+finishes_port way old new known node takes stands over = record {
   tree = Port way (name_at old.line.now node);
   front = Word (name_at old.line.now node) ∷ [];
   state = LineOver (Port way (name_at old.line.now node));
   led = led_name (WantNode way) (λ n. LineOver (Port way n)) (wants_node way) old new (name_at old.line.now node) takes;
   is_whole = refl;
   reads = plain_reads old new known (Word (name_at old.line.now node)) (PortSaid way (name_at old.line.now node)) takes.takes;
+  names = stands;
   over = over;
 }
 
-pub finishes_component : (old new : Cursor) (known : List (List ℕ)) (name : Name) → TakesName old new (name_at old.line.now name) → left new ≡ []
+pub finishes_component : (old new : Cursor) (known : List (List ℕ)) (name : Name) → TakesName old new (name_at old.line.now name) → StandsIn (length old.line.now) name → left new ≡ []
     → Finishes WantName old new known known (sentence.Component name)
-finishes_component old new known name takes over = record {
+finishes_component old new known name takes stands over = record {
   tree = Component (name_at old.line.now name);
   front = Word (name_at old.line.now name) ∷ [];
   state = LineOver (Component (name_at old.line.now name));
   led = led_name WantName (λ n. LineOver (Component n)) wants_name old new (name_at old.line.now name) takes;
   is_whole = refl;
   reads = plain_reads old new known (Word (name_at old.line.now name)) (ComponentSaid (name_at old.line.now name)) takes.takes;
+  names = stands;
   over = over;
 }
 
-pub finishes_get : (old new : Cursor) (known : List (List ℕ)) (node : Name) → TakesName old new (name_at old.line.now node) → left new ≡ []
+pub finishes_get : (old new : Cursor) (known : List (List ℕ)) (node : Name) → TakesName old new (name_at old.line.now node) → StandsIn (length old.line.now) node → left new ≡ []
     → Finishes WantGetNode old new known known (sentence.Get node)
-finishes_get old new known node takes over = record {
+finishes_get old new known node takes stands over = record {
   tree = Get (name_at old.line.now node);
   front = Word (name_at old.line.now node) ∷ [];
   state = LineOver (Get (name_at old.line.now node));
   led = led_name WantGetNode (λ n. LineOver (Get n)) wants_get_node old new (name_at old.line.now node) takes;
   is_whole = refl;
   reads = plain_reads old new known (Word (name_at old.line.now node)) (GetSaid (name_at old.line.now node)) takes.takes;
+  names = stands;
   over = over;
 }
 
-pub finishes_put : (old middle new : Cursor) (known texts : List (List ℕ)) (node : Name) (value : Value) → TakesName old middle (name_at old.line.now node) → ReadsConst middle new known texts value
+pub finishes_put : (old middle new : Cursor) (known texts : List (List ℕ)) (node : Name) (value : Value) → TakesName old middle (name_at old.line.now node) → StandsIn (length old.line.now) node → ReadsConst middle new known texts value
     → left new ≡ [] → Finishes WantPutNode old new known texts (sentence.Put node value)
-finishes_put old middle new known texts node value takes reads over = record {
+finishes_put old middle new known texts node value takes stands reads over = record {
   tree = Put (name_at old.line.now node) reads.constant;
   front = Word (name_at old.line.now node) ∷ const_token reads.constant ∷ [];
   state = LineOver (Put (name_at old.line.now node) reads.constant);
@@ -185,13 +188,14 @@ finishes_put old middle new known texts node value takes reads over = record {
   reads =
       Reads-behind old middle new known texts (Word (name_at old.line.now node)) (const_token reads.constant ∷ []) _ _ _ (PutSaid (name_at old.line.now node) value) takes.takes
       (Reads-then_as middle new known texts _ _ _ (numbered_const reads.constant) (PutSaid (name_at old.line.now node)) value reads.reads);
+  names = stands;
   over = over;
 }
 
 pub finishes_channel : (channel : ChannelWord) (old first second new : Cursor) (known texts : List (List ℕ)) (made : net.Kind) (a b : Name) → TakesName old first (name_at old.line.now a)
-    → TakesName first second (name_at first.line.now b) → ReadsKind channel second new known texts made → left new ≡ []
+    → TakesName first second (name_at first.line.now b) → StandsIn (length old.line.now) a → StandsIn (length first.line.now) b → ReadsKind channel second new known texts made → left new ≡ []
     → Finishes (WantA channel) old new known texts (sentence.Channel made a b)
-finishes_channel channel old first second new known texts made a b takes_a takes_b kinds over =
+finishes_channel channel old first second new known texts made a b takes_a takes_b stands_a stands_b kinds over =
     let takes : TakesName first second (name_at old.line.now b) = subst (λ l. TakesName first second (name_at l b)) takes_a.takes.line takes_b in
     record {
       tree = Channel kinds.tree (name_at old.line.now a) (name_at old.line.now b);
@@ -206,6 +210,7 @@ finishes_channel channel old first second new known texts made a b takes_a takes
           Reads-behind old first new known texts (Word (name_at old.line.now a)) (Word (name_at old.line.now b) ∷ kinds.front) _ _ _ (ChannelSaid made (name_at old.line.now a) (name_at old.line.now b)) takes_a.takes
           (Reads-behind first second new known texts (Word (name_at old.line.now b)) kinds.front _ _ _ (ChannelSaid made (name_at old.line.now a) (name_at old.line.now b)) takes.takes
           (Reads-then_as second new known texts kinds.front _ _ (numbered_kind (kind_of kinds.tree)) (λ k. ChannelSaid k (name_at old.line.now a) (name_at old.line.now b)) made kinds.reads));
+      names = (stands_a, subst (λ l. StandsIn (length l) b) takes_a.takes.line stands_b);
       over = over;
     }
 

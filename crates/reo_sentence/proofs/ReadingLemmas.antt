@@ -1,5 +1,5 @@
 -- What a reader has taken, put together from its parts.
-use Rattle.std.proofs.Common.{◌≡◌, ℕ, ℤ, Bool, true, false, ◌||◌, List, [], ◌∷◌, ◌++◌, map, Option, Some, None, IfSome, is_none, not, if◌then◌else◌, refl, sym, ap, subst, ◌∙◌, append_assoc}
+use Rattle.std.proofs.Common.{◌≡◌, ℕ, ◌+◌, ◌≤◌, length, arith, ℤ, Bool, true, false, ◌||◌, List, [], ◌∷◌, ◌++◌, map, Option, Some, None, IfSome, is_some, is_none, not, if◌then◌else◌, refl, sym, ap, subst, ◌∙◌, append_assoc, length-append}
 use Rattle.std.proofs.lemmas.List.{map-append}
 use Rattle.std.proofs.lemmas.Bool.{false≢true}
 use Rattle.std.proofs.lemmas.Option.{none-some, same_Some}
@@ -19,6 +19,7 @@ use Rattle.reo_sentence.specs.declared.cursor.Cursor.{Cursor}
 use Rattle.reo_sentence.specs.Seen.{seen}
 use Rattle.reo_sentence.specs.Limits.{in_range, is_number, is_wide_number, is_long_text}
 use Rattle.reo_value.specs.declared.value.Value.TheVariants.{Int, Sym}
+use Rattle.reo_value.specs.Lexicon.{place_of, added}
 use Rattle.reo_sentence.specs.Numbered.{Numbering, numbered_text, AddsText, in_turn, then_as}
 use Rattle.reo_sentence.specs.Reading.{left, next_key, next_symbol, next_text, symbol_of, Takes, Advances, Goes, Notes, TakesNumber, Reads, ReadsText, ReadsNumber, ReadsConst, Halts}
 
@@ -31,6 +32,12 @@ Goes-left old new front goes =
 pub Takes-left : (old new : Cursor) (token : Token) → Takes old new token → left old ≡ token ∷ left new
 Takes-left old new token takes =
     ap (map (seen old.line.now)) takes.rest ∙ ap (λ t. t ∷ map (seen old.line.now) new.rest.now) takes.is ∙ ap (λ l. token ∷ map (seen l) new.rest.now) (sym takes.line)
+
+-- one token fewer is left
+pub Takes-fewer : (old new : Cursor) (token : Token) → Takes old new token → length old.rest.now ≡ 1 + length new.rest.now
+Takes-fewer old new token takes =
+    let all : length old.rest.now ≡ length (takes.cut ∷ new.rest.now) = ap length takes.rest in
+    omega (arith, all)
 
 pub Goes-here : (cursor : Cursor) → Goes cursor cursor []
 Goes-here cursor = record { passed = []; rest = refl; is = refl; line = refl }
@@ -79,6 +86,7 @@ Reads-in_turn old middle new known between texts front back wide_1 wide_2 long_1
   numbered = λ not_wide not_long.
       let was = one.numbered (or_left middle.is_wide wide_2 (sym other.wide_noted ∙ not_wide)) (or_left middle.is_long long_2 (sym other.long_noted ∙ not_long)) in
       ap (λ r. ((second r.0).0, with r.1 (second r.0).1)) was ∙ ap (λ r. (r.0, with a r.1)) (other.numbered not_wide not_long);
+  few = omega (arith, one.few, other.few);
 }
 
 -- the same value, seen as another
@@ -89,6 +97,7 @@ Reads-then_as old new known texts front wide long numbers with a reads = record 
   wide_noted = reads.wide_noted;
   long_noted = reads.long_noted;
   numbered = λ not_wide not_long. ap (λ r. (r.0, with r.1)) (reads.numbered not_wide not_long);
+  few = reads.few;
 }
 
 -- a token in front
@@ -99,6 +108,7 @@ Reads-behind old middle new known texts token back wide long numbers a takes rea
   wide_noted = reads.wide_noted ∙ ap (λ w. w || wide) takes.wide;
   long_noted = reads.long_noted ∙ ap (λ w. w || long) takes.long;
   numbered = reads.numbered;
+  few = omega (arith, reads.few, Takes-fewer old middle token takes);
 }
 
 -- a token behind
@@ -109,6 +119,7 @@ Reads-before old middle new known texts front token wide long numbers a reads ta
   wide_noted = takes.wide ∙ reads.wide_noted;
   long_noted = takes.long ∙ reads.long_noted;
   numbered = λ not_wide not_long. reads.numbered (sym takes.wide ∙ not_wide) (sym takes.long ∙ not_long);
+  few = omega (arith, reads.few, Takes-fewer middle new token takes);
 }
 
 -- a token with this key is this word, where the key means something
@@ -198,25 +209,40 @@ Goes-noted old middle new token wide long takes notes = record {
 -- one token, and what was noted of it
 pub Reads-noted : {V : Type 0} (old middle new : Cursor) (known texts : List (List ℕ)) (token : Token) (wide long wide_is long_is : Bool) (numbers : Numbering V) (value : V)
     → Takes old middle token → Notes middle new wide long → wide ≡ wide_is → long ≡ long_is → (wide ≡ false → long ≡ false → numbers known ≡ (texts, value))
-    → Reads old new known texts (token ∷ []) wide_is long_is numbers value
-Reads-noted old middle new known texts token wide long wide_is long_is numbers value takes notes same_wide same_long numbered = record {
+    → length texts ≤ length known + 1 → Reads old new known texts (token ∷ []) wide_is long_is numbers value
+Reads-noted old middle new known texts token wide long wide_is long_is numbers value takes notes same_wide same_long numbered grown = record {
   goes = Goes-noted old middle new token wide long takes notes;
   wide_noted = notes.wide_noted ∙ ap (λ w. w || wide) takes.wide ∙ ap (λ w. old.is_wide || w) same_wide;
   long_noted = notes.long_noted ∙ ap (λ w. w || long) takes.long ∙ ap (λ w. old.is_long || w) same_long;
   numbered = λ not_wide not_long. numbered (or_right middle.is_wide wide (sym notes.wide_noted ∙ not_wide)) (or_right middle.is_long long (sym notes.long_noted ∙ not_long));
+  few = omega (arith, grown, Takes-fewer old middle token takes, ap length notes.rest);
 }
+
+-- none more
+pub no_more : (texts : List (List ℕ)) → length texts ≤ length texts + 1
+no_more texts = omega arith
+
+-- a text more at most
+one_more : (texts : List (List ℕ)) (text : List ℕ) → length (added texts text) ≤ length texts + 1
+one_more texts text = by (is_some (place_of texts text))
+  where
+    by : (known : Bool) → length (if known then texts else texts ++ text ∷ []) ≤ length texts + 1
+    by true = no_more texts
+    by false =
+        let more : length (texts ++ text ∷ []) ≡ length texts + 1 = length-append texts (text ∷ []) in
+        omega (arith, more)
 
 pub reads_text : (old middle new : Cursor) (known texts : List (List ℕ)) (value : List ℕ) (number : Option ℕ) (result : ℕ) → Some value ≡ next_text (left old) → Advances old middle
     → AddsText value known texts number → Notes middle new false (is_none number) → IfSome number (λ n. result ≡ n) → ReadsText old new known texts result
 reads_text old middle new known texts value None result is advances long notes given = record {
   text = value;
-  reads = Reads-noted old middle new known texts (Text value) false true false (is_long_text value) (numbered_text value) result (text_taken old middle value is advances) notes refl (sym long) (λ w l. absurd (false≢true (sym l)));
+  reads = Reads-noted old middle new known texts (Text value) false true false (is_long_text value) (numbered_text value) result (text_taken old middle value is advances) notes refl (sym long.0) (λ w l. absurd (false≢true (sym l))) (omega (arith, ap length long.1));
 }
 reads_text old middle new known texts value (Some n) result is advances adds notes given = record {
   text = value;
   reads =
       Reads-noted old middle new known texts (Text value) false false false (is_long_text value) (numbered_text value) result (text_taken old middle value is advances) notes refl (sym adds.0)
-      (λ w l. adds.1 ∙ ap (λ r. (texts, r)) (sym given));
+      (λ w l. adds.1 ∙ ap (λ r. (texts, r)) (sym given)) (subst (λ t. length t ≤ length known + 1) (ap (λ r. r.0) adds.1) (one_more known value));
 }
 
 in_range-wide : (value : ℤ) → is_none (in_range value) ≡ is_wide_number value
@@ -240,7 +266,7 @@ reads_number old middle new known number result takes notes given = record {
   value = takes.value;
   reads =
       Reads-noted old middle new known known (Number takes.value) (is_none number) false (is_wide_number takes.value) false (λ texts. (texts, takes.value)) result takes.takes notes
-      (ap is_none takes.is ∙ in_range-wide takes.value) refl (λ w l. ap (λ z. (known, z)) (sym (in_range-some takes.value number result takes.is w given)));
+      (ap is_none takes.is ∙ in_range-wide takes.value) refl (λ w l. ap (λ z. (known, z)) (sym (in_range-some takes.value number result takes.is w given))) (no_more known);
 }
 
 pub const_of_number : (old new : Cursor) (known : List (List ℕ)) (number : ℤ) → ReadsNumber old new known number → ReadsConst old new known known (Int number)

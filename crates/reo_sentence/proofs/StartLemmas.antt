@@ -1,5 +1,5 @@
 -- Lines, by the words with which they begin.
-use Rattle.std.proofs.Common.{◌≡◌, ◌≢◌, ℕ, true, false, List, [], ◌∷◌, Some, None, refl, sym, subst}
+use Rattle.std.proofs.Common.{◌≡◌, ◌≢◌, ℕ, true, false, List, [], ◌∷◌, length, Some, None, refl, sym, subst}
 use Rattle.std.proofs.lemmas.Bool.{false≢true}
 use Rattle.std.proofs.lemmas.Option.{none-some, same_Some}
 use Rattle.reo_value.specs.declared.op.Way.{Way}
@@ -19,7 +19,7 @@ use Rattle.reo_sentence.specs.declared.stop.Stop.{Stop}
 use Rattle.reo_sentence.specs.declared.stop.Stop.TheVariants as stop
 use Rattle.reo_sentence.specs.declared.said.Sentence as rust
 use Rattle.reo_sentence.specs.Limits.{is_wide, is_long}
-use Rattle.reo_sentence.specs.Said.{said, numbered_sentence}
+use Rattle.reo_sentence.specs.Said.{said, numbered_sentence, NamesStandIn}
 use Rattle.reo_sentence.specs.Reading.{left, next_key, Takes, Advances, Goes, Reads}
 use Rattle.reo_sentence.specs.LineReading.{Finishes, ReadsLine, StopsLine, StopsStart, word_of, is_port_key}
 use Rattle.reo_sentence.proofs.ReadingLemmas.{Goes-left, Goes-one, Halts-behind, Reads-behind, key_taken}
@@ -65,6 +65,7 @@ starts place next token old middle new known texts sentence takes is finishes = 
   reads =
       subst (λ l. Reads old new known texts (token ∷ finishes.front) (is_wide (lines.sentence_of finishes.tree)) (is_long (lines.sentence_of finishes.tree)) (numbered_sentence (lines.sentence_of finishes.tree)) (said l sentence)) takes.line
       (Reads-behind old middle new known texts token finishes.front _ _ _ (said middle.line.now sentence) takes finishes.reads);
+  names = subst (λ l. NamesStandIn (length l) sentence) takes.line finishes.names;
   over = finishes.over;
 }
 

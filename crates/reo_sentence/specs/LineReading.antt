@@ -16,7 +16,7 @@ use Rattle.reo_sentence.specs.declared.sentence.ChannelWord.TheVariants as word
 use Rattle.reo_sentence.specs.declared.sentence.Place as rust_place
 use Rattle.reo_sentence.specs.declared.sentence.Place.TheVariants as place
 use Rattle.reo_sentence.specs.Limits.{is_wide, is_long, is_wide_kind, is_long_kind}
-use Rattle.reo_sentence.specs.Said.{numbered_kind, numbered_sentence, said}
+use Rattle.reo_sentence.specs.Said.{numbered_kind, numbered_sentence, said, NamesStandIn}
 use Rattle.reo_sentence.specs.Reading.{left, Takes, Reads, StopsAt}
 
 abbrev pub place_of : rust_place.Place → Place
@@ -70,6 +70,7 @@ pub record Finishes (start : State) (old new : Cursor) (known texts : List (List
   pub led : (place : Place) → run (step place) (Some start) front ≡ Some state
   pub is_whole : whole state ≡ Some tree
   pub reads : Reads old new known texts front (is_wide (sentence_of tree)) (is_long (sentence_of tree)) (numbered_sentence (sentence_of tree)) (said old.line.now sentence)
+  pub names : NamesStandIn (length old.line.now) sentence
   pub over : left new ≡ []
 
 -- the reader stops where the machine is stuck, wherever the line stands
@@ -87,6 +88,7 @@ pub record ReadsLine (place : Place) (old new : Cursor) (known texts : List (Lis
   pub led : run (step place) (Some LineStart) front ≡ Some state
   pub is_whole : whole state ≡ Some tree
   pub reads : Reads old new known texts front (is_wide (sentence_of tree)) (is_long (sentence_of tree)) (numbered_sentence (sentence_of tree)) (said old.line.now sentence)
+  pub names : NamesStandIn (length old.line.now) sentence
   pub over : left new ≡ []
 
 abbrev pub StopsStart : Place → Cursor → Cursor → Stop → Type 0

@@ -23,9 +23,9 @@ Numbering V = List (List ℕ) → List (List ℕ) × V
 abbrev pub numbered_text : List ℕ → Numbering ℕ
 numbered_text text texts = (added texts text, number_in (added texts text) text)
 
--- the number of a text of a fair length, or nothing for a longer one
+-- the number of a text of a fair length, or nothing for a longer one, which is not added
 abbrev pub AddsText : List ℕ → List (List ℕ) → List (List ℕ) → Option ℕ → Type 0
-AddsText text known texts None = is_long_text text ≡ true
+AddsText text known texts None = (is_long_text text ≡ true) × (texts ≡ known)
 AddsText text known texts (Some number) = (is_long_text text ≡ false) × (numbered_text text known ≡ (texts, number))
 
 abbrev pub numbered_const : Const → Numbering Value

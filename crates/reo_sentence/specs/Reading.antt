@@ -1,5 +1,5 @@
 -- What a reader has taken of a line, in the words of the machine of the grammar.
-use Rattle.std.specs.Prelude.{◌≡◌, ℕ, ℤ, Bool, false, ◌||◌, List, [], ◌∷◌, ◌++◌, map, Option, Some, None}
+use Rattle.std.specs.Prelude.{◌≡◌, ℕ, ◌+◌, ◌≤◌, ℤ, Bool, false, ◌||◌, List, [], ◌∷◌, ◌++◌, length, map, Option, Some, None}
 use Rattle.reo_token.specs.declared.token.Symbol.{Symbol}
 use Rattle.reo_token.specs.declared.token.Token.{Token as CutToken}
 use Rattle.reo_grammar.specs.declared.key.Key.{Key}
@@ -45,6 +45,10 @@ abbrev pub next_const : List Token → Option Const
 next_const [] = None
 next_const (token ∷ tokens) = const_of token
 
+-- there is room for a text for each token that is left
+abbrev pub HasRoom : Cursor → List (List ℕ) → Type 0
+HasRoom cursor texts = length texts + length cursor.rest.now ≤ 16777216
+
 -- one token was taken
 pub record Takes (old new : Cursor) (token : Token) : Type 0 where
   pub cut : CutToken
@@ -79,12 +83,13 @@ pub record Notes (old new : Cursor) (wide long : Bool) : Type 0 where
   pub wide_noted : new.is_wide ≡ (old.is_wide || wide)
   pub long_noted : new.is_long ≡ (old.is_long || long)
 
--- The tokens in front were read, what is wrong with them is noted, and where nothing is, they stand for the value.
+-- The tokens in front were read, what is wrong with them is noted, and where nothing is, they stand for the value. Each of them adds one text at most.
 pub record Reads {V : Type 0} (old new : Cursor) (known texts : List (List ℕ)) (front : List Token) (wide long : Bool) (numbers : Numbering V) (value : V) : Type 0 where
   pub goes : Goes old new front
   pub wide_noted : new.is_wide ≡ (old.is_wide || wide)
   pub long_noted : new.is_long ≡ (old.is_long || long)
   pub numbered : new.is_wide ≡ false → new.is_long ≡ false → numbers known ≡ (texts, value)
+  pub few : length texts + length new.rest.now ≤ length known + length old.rest.now
 
 pub record ReadsText (old new : Cursor) (known texts : List (List ℕ)) (number : ℕ) : Type 0 where
   pub text : List ℕ

@@ -1,5 +1,5 @@
 -- What a line says, with its constants by number.
-use Rattle.std.specs.Prelude.{ℕ, List, Some, None, slice_range}
+use Rattle.std.specs.Prelude.{ℕ, ◌≤◌, List, Some, None, slice_range}
 use Rattle.reo_value.specs.declared.op.Way.{Way}
 use Rattle.reo_value.specs.declared.value.Value.{Value}
 use Rattle.reo_net.specs.declared.kind.Kind as net
@@ -36,6 +36,18 @@ numbered_sentence (GetLine node) = λ texts. (texts, GetSaid node)
 -- the name at these places of a line
 abbrev pub name_at : List ℕ → Name → List ℕ
 name_at line name = slice_range line name.start name.end
+
+-- a name stands in a line of so many bytes
+abbrev pub StandsIn : ℕ → Name → Type 0
+StandsIn len name = (name.start ≤ name.end) × (name.end ≤ len)
+
+-- all names of a sentence do
+abbrev pub NamesStandIn : ℕ → rust.Sentence → Type 0
+NamesStandIn len (sentence.Port way node) = StandsIn len node
+NamesStandIn len (sentence.Channel kind a b) = StandsIn len a × StandsIn len b
+NamesStandIn len (sentence.Component name) = StandsIn len name
+NamesStandIn len (sentence.Put node value) = StandsIn len node
+NamesStandIn len (sentence.Get node) = StandsIn len node
 
 -- what a sentence of the line says
 abbrev pub said : List ℕ → rust.Sentence → Said

@@ -1,5 +1,5 @@
 -- The tokens of a line, as the grammar sees them.
-use Rattle.std.specs.Prelude.{ℕ, ℤ, pos, neg_ℤ, ◌+◌, ◌-◌, ◌*◌, ◌==◌, if◌then◌else◌, Bool, true, false, List, [], ◌∷◌, Option, Some, None, slice_range}
+use Rattle.std.specs.Prelude.{◌≡◌, ℕ, ℤ, pos, neg_ℤ, ◌+◌, ◌-◌, ◌*◌, ◌==◌, if◌then◌else◌, Bool, true, false, List, [], ◌∷◌, Option, Some, None, slice_index, slice_range}
 use Rattle.reo_token.specs.declared.token.Token.{Token as CutToken}
 use Rattle.reo_token.specs.declared.token.Lexeme.{Lexeme}
 use Rattle.reo_token.specs.declared.token.Lexeme.TheVariants as lexeme
@@ -48,3 +48,8 @@ seen_as (lexeme.Sign symbol) line start end = Sign symbol
 -- a token of the line
 abbrev pub seen : List ℕ → CutToken → Token
 seen line token = seen_as token.lexeme line token.start token.end
+
+-- the first and the last byte of a text are its quotes
+pub record IsQuoted (line : List ℕ) (token : CutToken) : Type 0 where
+  pub opens : token.lexeme ≡ lexeme.Text → slice_index line token.start ≡ 34
+  pub closes : token.lexeme ≡ lexeme.Text → slice_index line (token.end - 1) ≡ 34

@@ -1,6 +1,7 @@
 //! The tokens of a line that are still to be read.
-ghost use Rattle.std.specs.Prelude.{length, All};
+ghost use Rattle.std.specs.Prelude.{length, All, IsUtf8};
 ghost use Rattle.reo_token.specs.Cut.{IsWithin};
+ghost use Rattle.reo_sentence.specs.Seen.{IsQuoted};
 
 use crate::number::number;
 use crate::stop::Stop;
@@ -20,6 +21,8 @@ pub(crate) struct Cursor<'a> {
     /// Some text is too long.
     pub(crate) is_long: bool,
     ghost within: { All (IsWithin (length line.now)) rest.now },
+    ghost quoted: { All (IsQuoted line.now) rest.now },
+    ghost utf8: { ∥ IsUtf8 line.now ∥₁ },
 }
 
 impl<'a> Cursor<'a> {
@@ -29,7 +32,7 @@ impl<'a> Cursor<'a> {
     ghost use Rattle.reo_grammar.specs.Machine.Guards.{token_key};
     ghost use Rattle.reo_sentence.specs.Limits.{in_range};
     ghost use Rattle.reo_sentence.specs.Seen.{seen, unescaped as text_value};
-    ghost use Rattle.reo_sentence.specs.Reading.{left, next_key, next_symbol, next_number, next_text, next_const, Takes, Advances, Goes, Notes, TakesNumber, ReadsText, ReadsConst, Refuses};
+    ghost use Rattle.reo_sentence.specs.Reading.{left, next_key, next_symbol, next_number, next_text, next_const, Takes, Advances, Goes, HasRoom, Notes, TakesNumber, ReadsText, ReadsConst, Refuses};
 
     /// What the next token means as a word.
     pub(crate) fn key(&self) -> Key
@@ -120,7 +123,8 @@ impl<'a> Cursor<'a> {
 
     /// The next token, where it is a text: what stands between its quotes.
     fn next_text(&self) -> Option<&'a [u8]>
-        ensures { option_map text_value (option_copied result) ≡ next_text (left self.now) }
+        ensures text { option_map text_value (option_copied result) ≡ next_text (left self.now) }
+        ensures utf8 { IfSome result (λ text. IsUtf8 text.now) }
     {
         let token = self.rest.first()?;
         match token.lexeme {
@@ -131,6 +135,7 @@ impl<'a> Cursor<'a> {
 
     /// Takes a text, and gives its number.
     pub(crate) fn text(&mut self, alloc: Global, texts: &mut Lexicon) -> Result<u32, Stop>
+        requires room { HasRoom self.old texts.old }
         ensures taken { IfOk result (λ number. ReadsText self.old self.new texts.old texts.new number) }
         ensures refused { IfErr result (Refuses self.old self.new (next_text (left self.old) ≡ None)) }
     {
@@ -144,6 +149,7 @@ impl<'a> Cursor<'a> {
 
     /// Takes a number or a text.
     pub(crate) fn constant(&mut self, alloc: Global, texts: &mut Lexicon) -> Result<Value, Stop>
+        requires room { HasRoom self.old texts.old }
         ensures taken { IfOk result (λ value. ReadsConst self.old self.new texts.old texts.new value) }
         ensures refused { IfErr result (Refuses self.old self.new (next_const (left self.old) ≡ None)) }
     {

@@ -2,7 +2,7 @@
 ghost use Rattle.std.specs.Prelude.{◌≡◌, ℕ, List, [], false, None, IfOk, IfErr};
 ghost use Rattle.reo_grammar.specs.Token.{Const};
 ghost use Rattle.reo_grammar.specs.Machine.Functions.{Start, AfterMap, WantFirst};
-ghost use Rattle.reo_sentence.specs.Reading.{left, next_key, next_number, Goes, ReadsNumber};
+ghost use Rattle.reo_sentence.specs.Reading.{left, next_key, next_number, Goes, ReadsNumber, HasRoom};
 ghost use Rattle.reo_sentence.specs.FunctionReading.{ReadsFunction, CompletesMap, ReadsPair, StopsFunction, MayNotEnd, is_function_key};
 
 use crate::cursor::Cursor;
@@ -16,6 +16,7 @@ use std::alloc::Global;
 
 impl Cursor<'_> {
     pub(crate) fn function(&mut self, alloc: Global, texts: &mut Lexicon) -> Result<Fun, Stop>
+        requires room { HasRoom self.old texts.old }
         ensures reads { IfOk result (ReadsFunction self.old self.new texts.old texts.new) }
         ensures stops { IfErr result (StopsFunction Start self.old self.new) }
     {
@@ -67,6 +68,7 @@ impl Cursor<'_> {
 
     // Behind `map`: pairs in braces.
     fn after_map(&mut self, alloc: Global, texts: &mut Lexicon) -> Result<Fun, Stop>
+        requires room { HasRoom self.old texts.old }
         ensures reads { IfOk result (CompletesMap self.old self.new texts.old texts.new) }
         ensures stops { IfErr result (StopsFunction AfterMap self.old self.new) }
     {
@@ -89,6 +91,7 @@ impl Cursor<'_> {
 
     // A constant, an arrow and another constant.
     fn pair(&mut self, alloc: Global, texts: &mut Lexicon) -> Result<(Value, Value), Stop>
+        requires room { HasRoom self.old texts.old }
         ensures reads { IfOk result (ReadsPair self.old self.new texts.old texts.new) }
         ensures stops { IfErr result (λ e. (pairs : List (Const × Const)) → MayNotEnd pairs (left self.old) → StopsFunction (WantFirst pairs) self.old self.new e) }
     {

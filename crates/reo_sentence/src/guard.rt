@@ -3,7 +3,7 @@ ghost use Rattle.std.specs.Prelude.{◌≡◌, ◌≢◌, ◌≤◌, ℕ, ℤ, L
 ghost use Rattle.std.specs.Option.{option_and_then};
 ghost use Rattle.reo_grammar.specs.Machine.Guards.{cmp_of as spec_cmp_of, AfterX, AfterMod, AfterIs, AfterLen, AfterStarts};
 ghost use Rattle.reo_sentence.specs.Limits.{in_range, natural_in, small_remainder};
-ghost use Rattle.reo_sentence.specs.Reading.{left, next_key, next_symbol, Notes};
+ghost use Rattle.reo_sentence.specs.Reading.{left, next_key, next_symbol, Notes, HasRoom};
 ghost use Rattle.reo_sentence.specs.GuardReading.{Completes, StopsIn, ReadsGuard, ReadsTerm, ReadsFactor, StopsGuard, StopsTerm, StopsFactor, is_joint, is_factor_key};
 
 use crate::cursor::Cursor;
@@ -23,6 +23,7 @@ impl Cursor<'_> {
     /// A guard: terms with `or` between them.
     #[cycle(guard)]
     pub(crate) fn guard(&mut self, alloc: Global, texts: &mut Lexicon) -> Result<Guard, Stop>
+        requires room { HasRoom self.old texts.old }
         ensures reads { IfOk result (ReadsGuard self.old self.new texts.old texts.new) }
         ensures whole { OnOk result (is_joint (next_key (left self.new)) ≡ false) }
         ensures stops { IfErr result (StopsGuard self.old self.new) }
@@ -39,6 +40,7 @@ impl Cursor<'_> {
     // Factors with `and` between them.
     #[cycle(guard)]
     fn term(&mut self, alloc: Global, texts: &mut Lexicon) -> Result<Guard, Stop>
+        requires room { HasRoom self.old texts.old }
         ensures reads { IfOk result (ReadsTerm self.old self.new texts.old texts.new) }
         ensures whole { OnOk result (next_key (left self.new) ≢ Key.And) }
         ensures stops { IfErr result (StopsTerm self.old self.new) }
@@ -54,6 +56,7 @@ impl Cursor<'_> {
 
     #[cycle(guard)]
     fn factor(&mut self, alloc: Global, texts: &mut Lexicon) -> Result<Guard, Stop>
+        requires room { HasRoom self.old texts.old }
         ensures reads { IfOk result (ReadsFactor self.old self.new texts.old texts.new) }
         ensures stops { IfErr result (StopsFactor self.old self.new) }
     {
@@ -86,7 +89,8 @@ impl Cursor<'_> {
     // A guard in brackets.
     #[cycle(guard)]
     fn bracketed(&mut self, alloc: Global, texts: &mut Lexicon) -> Result<Guard, Stop>
-        requires { is_factor_key (next_key (left self.old)) ≡ false }
+        requires room { HasRoom self.old texts.old }
+        requires begins { is_factor_key (next_key (left self.old)) ≡ false }
         ensures reads { IfOk result (ReadsFactor self.old self.new texts.old texts.new) }
         ensures stops { IfErr result (StopsFactor self.old self.new) }
     {
@@ -98,6 +102,7 @@ impl Cursor<'_> {
 
     // Behind `x`: a comparison, or `mod`.
     fn after_x(&mut self, alloc: Global, texts: &mut Lexicon) -> Result<Guard, Stop>
+        requires room { HasRoom self.old texts.old }
         ensures reads { IfOk result (Completes AfterX self.old self.new texts.old texts.new) }
         ensures stops { IfErr result (StopsIn AfterX self.old self.new) }
     {
@@ -185,6 +190,7 @@ impl Cursor<'_> {
     }
 
     fn after_starts(&mut self, alloc: Global, texts: &mut Lexicon) -> Result<Guard, Stop>
+        requires room { HasRoom self.old texts.old }
         ensures reads { IfOk result (Completes AfterStarts self.old self.new texts.old texts.new) }
         ensures stops { IfErr result (StopsIn AfterStarts self.old self.new) }
     {

@@ -1,6 +1,8 @@
 //! One line by its tokens.
-ghost use Rattle.std.specs.Prelude.{◌≡◌, ◌≢◌, ◌<◌, ◌^◌, [], length, All, IfOk, IfErr};
-ghost use Rattle.reo_token.specs.Cut.{IsWithin};
+ghost use Rattle.std.specs.Prelude.{◌≡◌, ◌≢◌, ◌+◌, ◌<◌, ◌≤◌, ◌^◌, [], length, All, IsUtf8, IfOk, IfErr, OnOk};
+ghost use Rattle.reo_token.specs.Cut.{cut, IsWithin};
+ghost use Rattle.reo_token.specs.declared.token.End.TheVariants.{Over as IsOver};
+ghost use Rattle.reo_sentence.specs.Said.{NamesStandIn};
 ghost use Rattle.reo_sentence.specs.LineReading.{place_of};
 ghost use Rattle.reo_sentence.specs.ReadLine.{Says, IsRefusedLine, column_at, end_of};
 
@@ -24,7 +26,7 @@ pub enum LineRefusal {
     NoMemory,
 }
 
-/// What a line with these tokens says in its place. Texts that are new are added at the end.
+/// What a line with these tokens says in its place. Texts that are new are added at the end, one a token at most.
 pub fn read_line(
     alloc: Global,
     line: &[u8],
@@ -35,7 +37,12 @@ pub fn read_line(
     requires short { length line.now < 2 ^ 31 }
     requires within { All (IsWithin (length line.now)) tokens.now }
     requires some { tokens.now ≢ [] }
+    requires cut { (tokens.now, IsOver) ≡ cut 512 0 line.now }
+    requires utf8 { IsUtf8 line.now }
+    requires room { length texts.old + length tokens.now ≤ 16777216 }
     ensures says { IfOk result (Says (place_of place) line.now tokens.now texts.old texts.new) }
+    ensures names { IfOk result (NamesStandIn (length line.now)) }
+    ensures few { OnOk result (length texts.new ≤ length texts.old + length tokens.now) }
     ensures refused { IfErr result (IsRefusedLine (place_of place) line.now tokens.now) }
 {
     let mut cursor = Cursor {

@@ -1,10 +1,10 @@
 //! Reading lines.
-ghost use Rattle.std.specs.Prelude.{◌≡◌, ◌≢◌, ℕ, true, false, List, [], None, IfOk, IfErr, OnOk};
+ghost use Rattle.std.specs.Prelude.{◌≡◌, ◌≢◌, ℕ, true, false, List, [], length, None, IfOk, IfErr, IfSome, OnOk};
 ghost use Rattle.std.specs.Option.{option_map};
 ghost use Rattle.reo_grammar.specs.Lines.{Place as AnyPlace, Scripts, OfCircuit, is_allowed};
 ghost use Rattle.reo_grammar.specs.Machine.Lines.{WantNode, WantA, WantName, WantPutNode, WantGetNode, FifoWord};
-ghost use Rattle.reo_sentence.specs.Reading.{left, next_key, Goes};
-ghost use Rattle.reo_sentence.specs.Said.{name_at};
+ghost use Rattle.reo_sentence.specs.Reading.{left, next_key, Goes, HasRoom};
+ghost use Rattle.reo_sentence.specs.Said.{name_at, StandsIn};
 ghost use Rattle.reo_sentence.specs.LineReading.{next_name, TakesName, ReadsKind, Finishes, ReadsLine, StopsLine, StopsKind, StopsStart, channel_word, place_of, word_of, is_port_key};
 
 use crate::cursor::Cursor;
@@ -45,6 +45,7 @@ impl Cursor<'_> {
         texts: &mut Lexicon,
         place: Place,
     ) -> Result<Sentence, Stop>
+        requires room { HasRoom self.old texts.old }
         ensures reads { IfOk result (ReadsLine (place_of place) self.old self.new texts.old texts.new) }
         ensures stops { IfErr result (StopsStart (place_of place) self.old self.new) }
     {
@@ -57,6 +58,7 @@ impl Cursor<'_> {
 
     // A line before the first component.
     fn circuit_line(&mut self, alloc: Global, texts: &mut Lexicon) -> Result<Sentence, Stop>
+        requires room { HasRoom self.old texts.old }
         ensures reads { IfOk result (λ s. (p : AnyPlace) → is_allowed p OfCircuit ≡ true → ReadsLine p self.old self.new texts.old texts.new s) }
         ensures stops { IfErr result (λ e. (p : AnyPlace) → is_allowed p OfCircuit ≡ true → StopsStart p self.old self.new e) }
     {
@@ -84,6 +86,7 @@ impl Cursor<'_> {
         texts: &mut Lexicon,
         key: Key,
     ) -> Result<Sentence, Stop>
+        requires room { HasRoom self.old texts.old }
         requires seen { key ≡ next_key (left self.old) }
         requires other { is_port_key key ≡ false }
         ensures reads { IfOk result (λ s. (p : AnyPlace) → is_allowed p OfCircuit ≡ true → ReadsLine p self.old self.new texts.old texts.new s) }
@@ -98,6 +101,7 @@ impl Cursor<'_> {
 
     // A line behind a component line.
     fn script_line(&mut self, alloc: Global, texts: &mut Lexicon) -> Result<Sentence, Stop>
+        requires room { HasRoom self.old texts.old }
         ensures reads { IfOk result (ReadsLine Scripts self.old self.new texts.old texts.new) }
         ensures stops { IfErr result (StopsStart Scripts self.old self.new) }
     {
@@ -135,6 +139,7 @@ impl Cursor<'_> {
         texts: &mut Lexicon,
         word: ChannelWord,
     ) -> Result<Sentence, Stop>
+        requires room { HasRoom self.old texts.old }
         ensures reads { IfOk result (Finishes (WantA (channel_word word)) self.old self.new texts.old texts.new) }
         ensures stops { IfErr result (StopsLine (WantA (channel_word word)) self.old self.new) }
     {
@@ -146,6 +151,7 @@ impl Cursor<'_> {
     }
 
     fn kind(&mut self, alloc: Global, texts: &mut Lexicon, word: ChannelWord) -> Result<Kind, Stop>
+        requires room { HasRoom self.old texts.old }
         ensures reads { IfOk result (ReadsKind (channel_word word) self.old self.new texts.old texts.new) }
         ensures stops { IfErr result (StopsKind (channel_word word) self.old self.new) }
     {
@@ -161,6 +167,7 @@ impl Cursor<'_> {
 
     // A buffer that is empty at first, or full.
     fn buffer(&mut self, alloc: Global, texts: &mut Lexicon) -> Result<Kind, Stop>
+        requires room { HasRoom self.old texts.old }
         ensures reads { IfOk result (ReadsKind FifoWord self.old self.new texts.old texts.new) }
         ensures stops { IfErr result (StopsKind FifoWord self.old self.new) }
     {
@@ -183,6 +190,7 @@ impl Cursor<'_> {
 
     // Behind `put`: a node and a datum.
     fn put(&mut self, alloc: Global, texts: &mut Lexicon) -> Result<Sentence, Stop>
+        requires room { HasRoom self.old texts.old }
         ensures reads { IfOk result (Finishes WantPutNode self.old self.new texts.old texts.new) }
         ensures stops { IfErr result (StopsLine WantPutNode self.old self.new) }
     {
@@ -204,6 +212,7 @@ impl Cursor<'_> {
     /// Takes a name.
     fn name(&mut self) -> Result<Name, Stop>
         ensures taken { IfOk result (λ name. TakesName self.old self.new (name_at self.old.line.now name)) }
+        ensures within { IfOk result (StandsIn (length self.old.line.now)) }
         ensures refused { IfErr result (λ e. (e ≡ Stop.Syntax) × Goes self.old self.new [] × (next_name (left self.old) ≡ None)) }
     {
         let Some(name) = self.next_name() else {
@@ -215,7 +224,8 @@ impl Cursor<'_> {
 
     // The next token, where it is a name.
     fn next_name(&self) -> Option<Name>
-        ensures { option_map (name_at self.now.line.now) result ≡ next_name (left self.now) }
+        ensures name { option_map (name_at self.now.line.now) result ≡ next_name (left self.now) }
+        ensures within { IfSome result (StandsIn (length self.now.line.now)) }
     {
         let token = self.rest.first()?;
         match token.lexeme {

@@ -1,10 +1,9 @@
 //! Texts.
-ghost use Rattle.std.specs.Prelude.{◌≡◌, ◌==◌, IfOk, IfErr};
+ghost use Rattle.std.specs.Prelude.{◌≡◌, ◌==◌, ◌<◌, length, IsUtf8, IfOk};
 ghost use Rattle.reo_sentence.specs.Numbered.{AddsText};
 ghost use Rattle.std.specs.List.{list_any};
 ghost use Rattle.reo_sentence.specs.Seen.{unescaped, byte_step, meant};
 
-use crate::stop::Stop;
 use reo_value::{LexRefusal, Lexicon};
 use std::alloc::{AllocError, Global};
 
@@ -15,9 +14,10 @@ pub(crate) fn add_value(
     alloc: Global,
     texts: &mut Lexicon,
     text: &[u8],
-) -> Result<Option<u32>, Stop>
-    ensures added { IfOk result (AddsText (unescaped text.now) texts.old texts.new) }
-    ensures error { IfErr result (λ e. e ≡ Stop.NoMemory) }
+) -> Result<Option<u32>, AllocError>
+    requires utf8 { IsUtf8 text.now }
+    requires room { length texts.old < 16777216 }
+    ensures { IfOk result (AddsText (unescaped text.now) texts.old texts.new) }
 {
     if !is_escaped(text) {
         return add(alloc, texts, text);
@@ -27,18 +27,19 @@ pub(crate) fn add_value(
 }
 
 // The number of a text, which is added where it is new; nothing where it is too long.
-fn add(alloc: Global, texts: &mut Lexicon, value: &[u8]) -> Result<Option<u32>, Stop>
-    ensures added { IfOk result (AddsText value.now texts.old texts.new) }
-    ensures error { IfErr result (λ e. e ≡ Stop.NoMemory) }
+fn add(alloc: Global, texts: &mut Lexicon, value: &[u8]) -> Result<Option<u32>, AllocError>
+    requires utf8 { IsUtf8 value.now }
+    requires room { length texts.old < 16777216 }
+    ensures { IfOk result (AddsText value.now texts.old texts.new) }
 {
-    // A text of a document that is UTF-8 is UTF-8, and the lexicon has room for all texts of a document.
     let Ok(text) = str::from_utf8(value) else {
-        return Err(Stop::NoMemory);
+        unreachable!()
     };
     match texts.add(alloc, text) {
         Ok(number) => Ok(Some(number)),
         Err(LexRefusal::TooLong) => Ok(None),
-        Err(_) => Err(Stop::NoMemory),
+        Err(LexRefusal::Full) => unreachable!(),
+        Err(LexRefusal::NoMemory) => Err(AllocError),
     }
 }
 

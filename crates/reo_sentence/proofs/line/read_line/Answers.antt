@@ -1,7 +1,12 @@
 use Rattle.std.proofs.Common.{refl}
 use Rattle.reo_sentence.specs.LineReading.{place_of}
+use Rattle.std.proofs.lemmas.Grind.{merely}
+use Rattle.reo_sentence.proofs.QuoteLemmas.{quoted_tokens}
 use Rattle.reo_sentence.proofs.VerdictLemmas.{wide_line, long_line, says_line, stopped_line}
 use Rattle.reo_sentence.proofs.line.read_line.Goals as goal
+
+pub invariant_of-cursor : goal.invariant_of-cursor
+invariant_of-cursor c = record { within = c.requires.within; quoted = quoted_tokens c.args.line.now c.args.tokens.now c.requires.cut; utf8 = merely c.requires.utf8 }
 
 pub returns-then-cursor-clause-refused : goal.returns-then-cursor-clause-refused
 returns-then-cursor-clause-refused c = wide_line (place_of c.args.place) _ _ _ _ _ c.in-Ok.ensures.reads refl c.if-cursor.true

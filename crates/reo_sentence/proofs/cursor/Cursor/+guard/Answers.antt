@@ -12,7 +12,7 @@ use Rattle.reo_sentence.proofs.cursor.Cursor.+guard.Goals as goal
 pub bracketed-returns-in_err-expect-clause-stops : goal.bracketed-returns-in_err-expect-clause-stops
 bracketed-returns-in_err-expect-clause-stops t c =
     passed_on c.from_residual.result c.in_err-expect.field-0.0 (StopsFactor c.args.self.now c.expect.new.self) c.from_residual.ensures.1
-    (stops_no_factor c.args.self.now c.expect.new.self _ c.in_err-expect.ensures.refused.0 c.in_err-expect.ensures.refused.1 c.requires c.in_err-expect.ensures.refused.2)
+    (stops_no_factor c.args.self.now c.expect.new.self _ c.in_err-expect.ensures.refused.0 c.in_err-expect.ensures.refused.1 c.requires.begins c.in_err-expect.ensures.refused.2)
 
 pub bracketed-returns-in_err-guard-clause-stops : goal.bracketed-returns-in_err-guard-clause-stops
 bracketed-returns-in_err-guard-clause-stops t c =

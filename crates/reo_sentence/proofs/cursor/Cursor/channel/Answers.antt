@@ -34,4 +34,4 @@ returns-in_err-end-clause-stops c =
 
 pub returns-clause-reads : goal.returns-clause-reads
 returns-clause-reads c =
-    finishes_channel (channel_word c.args.word) c.args.self.now c.name.new.self c.name-2.new.self c.kind.new.self c.args.texts.now c.kind.new.texts c.in_ok-kind.kind c.in_ok-a.a c.in_ok-b.b c.in_ok-a.ensures.taken c.in_ok-b.ensures.taken c.in_ok-kind.ensures.reads c.in_ok-end.ensures.over
+    finishes_channel (channel_word c.args.word) c.args.self.now c.name.new.self c.name-2.new.self c.kind.new.self c.args.texts.now c.kind.new.texts c.in_ok-kind.kind c.in_ok-a.a c.in_ok-b.b c.in_ok-a.ensures.taken c.in_ok-b.ensures.taken c.in_ok-a.ensures.within c.in_ok-b.ensures.within c.in_ok-kind.ensures.reads c.in_ok-end.ensures.over

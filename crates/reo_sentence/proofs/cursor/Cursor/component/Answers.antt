@@ -19,4 +19,4 @@ returns-in_err-end-clause-stops c =
 
 pub returns-clause-reads : goal.returns-clause-reads
 returns-clause-reads c texts =
-    finishes_component c.args.self.now c.name.new.self texts c.in_ok-name.name c.in_ok-name.ensures.taken c.in_ok-end.ensures.over
+    finishes_component c.args.self.now c.name.new.self texts c.in_ok-name.name c.in_ok-name.ensures.taken c.in_ok-name.ensures.within c.in_ok-end.ensures.over

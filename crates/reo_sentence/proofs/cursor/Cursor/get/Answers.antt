@@ -19,4 +19,4 @@ returns-in_err-end-clause-stops c =
 
 pub returns-clause-reads : goal.returns-clause-reads
 returns-clause-reads c texts =
-    finishes_get c.args.self.now c.name.new.self texts c.in_ok-node.node c.in_ok-node.ensures.taken c.in_ok-end.ensures.over
+    finishes_get c.args.self.now c.name.new.self texts c.in_ok-node.node c.in_ok-node.ensures.taken c.in_ok-node.ensures.within c.in_ok-end.ensures.over

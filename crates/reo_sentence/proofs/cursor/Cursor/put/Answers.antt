@@ -28,4 +28,4 @@ returns-in_err-end-clause-stops c =
 
 pub returns-clause-reads : goal.returns-clause-reads
 returns-clause-reads c =
-    finishes_put c.args.self.now c.name.new.self c.constant.new.self c.args.texts.now c.constant.new.texts c.in_ok-node.node c.in_ok-value.value c.in_ok-node.ensures.taken c.in_ok-value.ensures.taken c.in_ok-end.ensures.over
+    finishes_put c.args.self.now c.name.new.self c.constant.new.self c.args.texts.now c.constant.new.texts c.in_ok-node.node c.in_ok-value.value c.in_ok-node.ensures.taken c.in_ok-node.ensures.within c.in_ok-value.ensures.taken c.in_ok-end.ensures.over
