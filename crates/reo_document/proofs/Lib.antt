@@ -7,3 +7,4 @@ pub mod LineLemmas
 pub mod OwnerLemmas
 pub mod BuilderLemmas
 pub mod ReadLemmas
+pub mod RoomLemmas

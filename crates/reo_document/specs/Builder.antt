@@ -1,5 +1,5 @@
 -- The document so far, as its builder has it.
-use Rattle.std.specs.Prelude.{◌≡◌, ℕ, suc, ◌==◌, nat_lt, if◌then◌else◌, Bool, false, List, [], ◌∷◌, slice_get, Option, Some, None, unwrap_or}
+use Rattle.std.specs.Prelude.{◌≡◌, ℕ, suc, ◌+◌, ◌*◌, ◌≤◌, ◌==◌, nat_lt, if◌then◌else◌, Bool, false, List, [], ◌∷◌, length, slice_get, Option, Some, None, unwrap_or}
 use Rattle.std.specs.List.{list_any}
 use Rattle.std.specs.Option.{option_map, option_or}
 use Rattle.reo_value.specs.Op.{port_of}
@@ -11,6 +11,13 @@ use Rattle.reo_document.specs.Document.{DocumentData}
 
 abbrev pub data_of : Builder → DocumentData
 data_of b = record { lines = b.lines.items; nodes = b.nodes; texts = b.texts; people = b.people; scripts = b.scripts.items }
+
+-- the lists of the document so far have room for what so many bytes can add to them
+pub record HasRoom (d : DocumentData) (bytes : ℕ) : Type 0 where
+  pub lines : length d.lines + bytes ≤ 8388608
+  pub nodes : length d.nodes + 2 * bytes ≤ 16777216
+  pub texts : length d.texts + bytes ≤ 8388608
+  pub people : length d.people + bytes ≤ 8388608
 
 -- a put of the value at the port, or a get there
 abbrev pub operation_at : ℕ → Option Value → Op

@@ -2,7 +2,7 @@
 ghost use Rattle.std.specs.Prelude.{◌≡◌, ◌<◌, ◌^◌, nat_le, ◌+◌, ◌≤◌, length, IfOk, OnOk};
 ghost use Rattle.reo_value.specs.Lexicon.{added};
 ghost use Rattle.reo_sentence.specs.Numbered.{number_in};
-ghost use Rattle.reo_sentence.specs.Said.{name_at, said, PortSaid, ChannelSaid, ComponentSaid};
+ghost use Rattle.reo_sentence.specs.Said.{name_at, IsNameIn, AreNamesIn, said, PortSaid, ChannelSaid, ComponentSaid};
 ghost use Rattle.reo_document.specs.Placed.{port_from, port_named, is_taken, operation_count, misplaced_at, misplaced, port_number, with_operation, with_said};
 ghost use Rattle.reo_document.specs.Spells.{empty};
 ghost use Rattle.reo_document.specs.Builder.{data_of, operation_at, owner_at, is_before, Claims, KnowsOwners};
@@ -11,7 +11,7 @@ use crate::line::Line;
 use crate::refusal::Misplaced;
 use reo_net::{Channel, Kind};
 use reo_sentence::{Name, Sentence};
-use reo_value::{Lexicon, Op, Value, Way};
+use reo_value::{LexRefusal, Lexicon, Op, Value, Way};
 use sqlite_items::Items;
 use std::alloc::{AllocError, Global};
 
@@ -47,49 +47,41 @@ impl Builder {
     }
 
     /// Why the line that says this may not stand here, if so.
-    pub(crate) fn misplaced(
-        &self,
-        line: &[u8],
-        sentence: &Sentence,
-    ) -> Result<Option<Misplaced>, AllocError>
+    pub(crate) fn misplaced(&self, line: &[u8], sentence: &Sentence) -> Option<Misplaced>
         requires room { length self.now.lines.items < 2 ^ 31 }
         requires owners { KnowsOwners self.now }
-        ensures { IfOk result (λ why. why ≡ misplaced (data_of self.now) (said line.now sentence.now)) }
+        requires names { AreNamesIn line.now sentence.now }
+        ensures { result ≡ misplaced (data_of self.now) (said line.now sentence.now) }
     {
         match sentence {
-            Sentence::Port(_, _) => Ok(None),
-            Sentence::Channel(_, _, _) => Ok(None),
+            Sentence::Port(_, _) => None,
+            Sentence::Channel(_, _, _) => None,
             Sentence::Component(name) => self.misplaced_component(line, *name),
             Sentence::Put(node, _) => self.misplaced_operation(line, *node, Way::Put),
             Sentence::Get(node) => self.misplaced_operation(line, *node, Way::Get),
         }
     }
 
-    fn misplaced_component(&self, line: &[u8], name: Name) -> Result<Option<Misplaced>, AllocError>
-        ensures { IfOk result (λ why. why ≡ misplaced (data_of self.now) (ComponentSaid (name_at line.now name))) }
+    fn misplaced_component(&self, line: &[u8], name: Name) -> Option<Misplaced>
+        requires { IsNameIn line.now name }
+        ensures { result ≡ misplaced (data_of self.now) (ComponentSaid (name_at line.now name)) }
     {
         if self.people.len() >= MOST_COMPONENTS {
-            return Ok(Some(Misplaced::TooManyComponents));
+            return Some(Misplaced::TooManyComponents);
         }
-        let name = name_in(line, name)?;
-        if self.people.find(name).is_some() {
-            return Ok(Some(Misplaced::ComponentTwice));
+        if self.people.find(name_in(line, name)).is_some() {
+            return Some(Misplaced::ComponentTwice);
         }
-        Ok(None)
+        None
     }
 
-    fn misplaced_operation(
-        &self,
-        line: &[u8],
-        node: Name,
-        way: Way,
-    ) -> Result<Option<Misplaced>, AllocError>
+    fn misplaced_operation(&self, line: &[u8], node: Name, way: Way) -> Option<Misplaced>
         requires room { length self.now.lines.items < 2 ^ 31 }
         requires owners { KnowsOwners self.now }
-        ensures { IfOk result (λ why. why ≡ misplaced_at (data_of self.now) way (port_named (data_of self.now) (name_at line.now node))) }
+        requires name { IsNameIn line.now node }
+        ensures { result ≡ misplaced_at (data_of self.now) way (port_named (data_of self.now) (name_at line.now node)) }
     {
-        let name = name_in(line, node)?;
-        Ok(self.misplaced_at(self.port(name), way))
+        self.misplaced_at(self.port(name_in(line, node)), way)
     }
 
     // The first port at the node of this name.
@@ -145,29 +137,34 @@ impl Builder {
         sentence: Sentence,
     ) -> Result<(), AllocError>
         requires room { length self.old.lines.items < 2 ^ 31 }
+        requires nodes { length self.old.nodes + 2 ≤ 16777216 }
+        requires people { length self.old.people < 16777216 }
         requires owners { KnowsOwners self.old }
+        requires names { AreNamesIn line.now sentence }
         ensures exact { OnOk result (data_of self.new ≡ with_said (data_of self.old) (said line.now sentence)) }
         ensures owners { OnOk result (KnowsOwners self.new) }
         ensures lines { OnOk result (length self.new.lines.items ≤ length self.old.lines.items + 1) }
     {
         match sentence {
-            Sentence::Port(way, node) => self.add_port(alloc, name_in(line, node)?, way),
+            Sentence::Port(way, node) => self.add_port(alloc, name_in(line, node), way),
             Sentence::Channel(kind, a, b) => {
-                self.add_channel(alloc, kind, name_in(line, a)?, name_in(line, b)?)
+                self.add_channel(alloc, kind, name_in(line, a), name_in(line, b))
             }
-            Sentence::Component(name) => self.add_component(alloc, name_in(line, name)?),
+            Sentence::Component(name) => self.add_component(alloc, name_in(line, name)),
             Sentence::Put(node, value) => {
-                let port = self.port_number(name_in(line, node)?);
+                let port = self.port_number(name_in(line, node));
                 self.add_operation(port, Some(value))
             }
             Sentence::Get(node) => {
-                let port = self.port_number(name_in(line, node)?);
+                let port = self.port_number(name_in(line, node));
                 self.add_operation(port, None)
             }
         }
     }
 
     fn add_port(&mut self, alloc: Global, node: &str, way: Way) -> Result<(), AllocError>
+        requires room { length self.old.nodes < 16777216 }
+        requires short { length node.now ≤ 64 }
         requires owners { KnowsOwners self.old }
         ensures exact { OnOk result (data_of self.new ≡ with_said (data_of self.old) (PortSaid way node.now)) }
         ensures owners { OnOk result (KnowsOwners self.new) }
@@ -179,6 +176,9 @@ impl Builder {
     }
 
     fn add_channel(&mut self, alloc: Global, kind: Kind, a: &str, b: &str) -> Result<(), AllocError>
+        requires room { length self.old.nodes + 2 ≤ 16777216 }
+        requires short { length a.now ≤ 64 }
+        requires also { length b.now ≤ 64 }
         requires owners { KnowsOwners self.old }
         ensures exact { OnOk result (data_of self.new ≡ with_said (data_of self.old) (ChannelSaid kind a.now b.now)) }
         ensures owners { OnOk result (KnowsOwners self.new) }
@@ -195,6 +195,8 @@ impl Builder {
     }
 
     fn add_component(&mut self, alloc: Global, name: &str) -> Result<(), AllocError>
+        requires room { length self.old.people < 16777216 }
+        requires short { length name.now ≤ 64 }
         requires owners { KnowsOwners self.old }
         ensures exact { OnOk result (data_of self.new ≡ with_said (data_of self.old) (ComponentSaid name.now)) }
         ensures owners { OnOk result (KnowsOwners self.new) }
@@ -244,25 +246,28 @@ fn operation_at(port: u32, value: Option<Value>) -> Op
 
 // The number of a name, which is added where it is new.
 fn number(alloc: Global, names: &mut Lexicon, name: &str) -> Result<u32, AllocError>
+    requires room { length names.old < 16777216 }
+    requires short { length name.now ≤ 64 }
     ensures names { OnOk result (names.new ≡ added names.old name.now) }
     ensures number { IfOk result (λ n. n ≡ number_in (added names.old name.now) name.now) }
 {
-    // A name is short, and a document has room for few of them.
-    names.add(alloc, name).map_err(|_| AllocError)
+    match names.add(alloc, name) {
+        Ok(number) => Ok(number),
+        Err(LexRefusal::TooLong) => unreachable!(),
+        Err(LexRefusal::Full) => unreachable!(),
+        Err(LexRefusal::NoMemory) => Err(AllocError),
+    }
 }
 
 // The name at this place of a line.
-fn name_in(line: &[u8], name: Name) -> Result<&str, AllocError>
-    ensures { IfOk result (λ text. text.now ≡ name_at line.now name) }
+fn name_in(line: &[u8], name: Name) -> &str
+    requires { IsNameIn line.now name }
+    ensures { result.now ≡ name_at line.now name }
 {
-    // A name is a word of its line, which is UTF-8.
-    let Some(bytes) = line.get(name.start as usize..name.end as usize) else {
-        return Err(AllocError);
+    let Ok(text) = str::from_utf8(&line[name.start as usize..name.end as usize]) else {
+        unreachable!()
     };
-    let Ok(text) = str::from_utf8(bytes) else {
-        return Err(AllocError);
-    };
-    Ok(text)
+    text
 }
 
 // The first port at a node: its number, and its way.

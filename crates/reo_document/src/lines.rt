@@ -1,5 +1,5 @@
 //! The lines of a text, one after the other.
-ghost use Rattle.std.specs.Prelude.{◌≡◌, ◌==◌, ◌<◌, ◌≤◌, ◌∷◌, length, position, IfSome};
+ghost use Rattle.std.specs.Prelude.{◌≡◌, ◌==◌, ◌+◌, ◌<◌, ◌≤◌, ◌∷◌, length, position, IsUtf8, IfSome};
 ghost use Rattle.std.specs.Option.{option_copied};
 ghost use Rattle.reo_document.specs.Lines.{lines_of, lines_behind, without_end};
 
@@ -9,9 +9,12 @@ const CARRIAGE_RETURN: u8 = b'\r';
 
 /// The first line, without its end, and what follows it; nothing follows the last line.
 pub(crate) fn next_line(bytes: &[u8]) -> (&[u8], Option<&[u8]>)
+    requires { IsUtf8 bytes.now }
     ensures exact { lines_of bytes.now ≡ result.0.now ∷ lines_behind (option_copied result.1) }
-    ensures fewer { IfSome result.1 (λ rest. length rest.now < length bytes.now) }
+    ensures fewer { IfSome result.1 (λ rest. length result.0.now + length rest.now < length bytes.now) }
     ensures short { length result.0.now ≤ length bytes.now }
+    ensures utf8 { IsUtf8 result.0.now }
+    ensures rest { IfSome result.1 (λ rest. IsUtf8 rest.now) }
 {
     match line_feed_in(bytes) {
         Some(at) => (without_end(&bytes[..at]), Some(&bytes[at + 1..])),

@@ -1,10 +1,10 @@
 //! Reading the lines of a document.
-ghost use Rattle.std.specs.Prelude.{◌≡◌, ◌≢◌, ◌+◌, ◌<◌, ◌≤◌, ◌^◌, [], length, All, OnOk, IfOk, IfErr};
+ghost use Rattle.std.specs.Prelude.{◌≡◌, ◌≢◌, ℕ, ◌+◌, ◌<◌, ◌≤◌, ◌^◌, [], length, All, IsUtf8, OnOk, IfOk, IfErr};
 ghost use Rattle.reo_token.specs.Cut.{cut, IsWithin};
 ghost use Rattle.reo_token.specs.declared.token.End.TheVariants.{Over as IsOver};
 ghost use Rattle.reo_sentence.specs.LineReading.{place_of};
 ghost use Rattle.reo_document.specs.Spells.{place_in, refusal_at, Leads, LinesLead, Goes, Spells};
-ghost use Rattle.reo_document.specs.Builder.{data_of, KnowsOwners};
+ghost use Rattle.reo_document.specs.Builder.{data_of, HasRoom, KnowsOwners};
 ghost use Rattle.reo_document.specs.Reading.{StopsWith, StopsIn, IsRefusalOf};
 ghost use Rattle.reo_document.specs.Lines.{lines_of};
 
@@ -25,12 +25,14 @@ impl Builder {
         number: u32,
     ) -> Result<(), TextRefusal>
         requires short { length line.now < 2 ^ 31 }
-        requires room { length self.old.lines.items < 2 ^ 31 }
+        requires utf8 { IsUtf8 line.now }
+        requires room { HasRoom (data_of self.old) (length line.now) }
         requires owners { KnowsOwners self.old }
         ensures goes { OnOk result (Leads (data_of self.old) number line.now (Goes (data_of self.new))) }
         ensures owners { OnOk result (KnowsOwners self.new) }
         ensures stops { IfErr result (StopsWith (data_of self.old) number line.now) }
         ensures lines { OnOk result (length self.new.lines.items ≤ length self.old.lines.items + 1) }
+        ensures room { OnOk result ((more : ℕ) → HasRoom (data_of self.old) (length line.now + 1 + more) → HasRoom (data_of self.new) more) }
     {
         let Ok(end) = cut_line(tokens, line) else {
             return Err(TextRefusal::NoMemory);
@@ -57,7 +59,8 @@ impl Builder {
         number: u32,
     ) -> Result<(), TextRefusal>
         requires short { length line.now < 2 ^ 31 }
-        requires room { length self.old.lines.items < 2 ^ 31 }
+        requires utf8 { IsUtf8 line.now }
+        requires room { HasRoom (data_of self.old) (length line.now) }
         requires owners { KnowsOwners self.old }
         requires cut { (tokens.now, IsOver) ≡ cut 512 0 line.now }
         requires within { All (IsWithin (length line.now)) tokens.now }
@@ -66,15 +69,15 @@ impl Builder {
         ensures owners { OnOk result (KnowsOwners self.new) }
         ensures stops { IfErr result (StopsWith (data_of self.old) number line.now) }
         ensures lines { OnOk result (length self.new.lines.items ≤ length self.old.lines.items + 1) }
+        ensures room { OnOk result ((more : ℕ) → HasRoom (data_of self.old) (length line.now + 1 + more) → HasRoom (data_of self.new) more) }
     {
         let place = self.place();
         match read_line(alloc, line, tokens, place, &mut self.texts) {
             Ok(sentence) => match self.misplaced(line, &sentence) {
-                Ok(Some(why)) => Err(refusal_at(number, why)),
-                Ok(None) => self
+                Some(why) => Err(refusal_at(number, why)),
+                None => self
                     .add(alloc, line, sentence)
                     .map_err(|_| TextRefusal::NoMemory),
-                Err(_) => Err(TextRefusal::NoMemory),
             },
             Err(LineRefusal::Syntax(column)) => Err(TextRefusal::Syntax(number, column)),
             Err(LineRefusal::NumberRange) => Err(TextRefusal::NumberRange(number)),
@@ -125,7 +128,9 @@ pub(crate) fn read_parts(alloc: Global, bytes: &[u8]) -> Result<Builder, TextRef
 // Adds all lines.
 fn read_lines(alloc: Global, builder: &mut Builder, bytes: &[u8]) -> Result<(), TextRefusal>
     requires short { length bytes.now ≤ 8388608 }
-    requires room { length builder.old.lines.items ≡ 0 }
+    requires utf8 { IsUtf8 bytes.now }
+    requires none { length builder.old.lines.items ≡ 0 }
+    requires room { HasRoom (data_of builder.old) (length bytes.now) }
     requires owners { KnowsOwners builder.old }
     ensures goes { OnOk result (LinesLead (data_of builder.old) 1 (lines_of bytes.now) (Goes (data_of builder.new))) }
     ensures stops { IfErr result (StopsIn (data_of builder.old) 1 (lines_of bytes.now)) }

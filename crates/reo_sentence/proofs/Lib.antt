@@ -10,3 +10,4 @@ pub mod LineLemmas
 pub mod KindLemmas
 pub mod StartLemmas
 pub mod VerdictLemmas
+pub mod NameLemmas

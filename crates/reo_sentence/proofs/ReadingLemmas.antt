@@ -1,5 +1,5 @@
 -- What a reader has taken, put together from its parts.
-use Rattle.std.proofs.Common.{◌≡◌, ℕ, ◌+◌, ◌≤◌, length, arith, ℤ, Bool, true, false, ◌||◌, List, [], ◌∷◌, ◌++◌, map, Option, Some, None, IfSome, is_some, is_none, not, if◌then◌else◌, refl, sym, ap, subst, ◌∙◌, append_assoc, length-append}
+use Rattle.std.proofs.Common.{◌≡◌, ℕ, ◌+◌, ◌≤◌, length, arith, ℤ, Bool, true, false, ◌||◌, List, [], ◌∷◌, ◌++◌, map, Option, Some, None, IfSome, is_none, not, if◌then◌else◌, refl, sym, ap, subst, ◌∙◌, append_assoc}
 use Rattle.std.proofs.lemmas.List.{map-append}
 use Rattle.std.proofs.lemmas.Bool.{false≢true}
 use Rattle.std.proofs.lemmas.Option.{none-some, same_Some}
@@ -19,7 +19,7 @@ use Rattle.reo_sentence.specs.declared.cursor.Cursor.{Cursor}
 use Rattle.reo_sentence.specs.Seen.{seen}
 use Rattle.reo_sentence.specs.Limits.{in_range, is_number, is_wide_number, is_long_text}
 use Rattle.reo_value.specs.declared.value.Value.TheVariants.{Int, Sym}
-use Rattle.reo_value.specs.Lexicon.{place_of, added}
+use Rattle.reo_value.proofs.LexiconLemmas.{length-added}
 use Rattle.reo_sentence.specs.Numbered.{Numbering, numbered_text, AddsText, in_turn, then_as}
 use Rattle.reo_sentence.specs.Reading.{left, next_key, next_symbol, next_text, symbol_of, Takes, Advances, Goes, Notes, TakesNumber, Reads, ReadsText, ReadsNumber, ReadsConst, Halts}
 
@@ -222,16 +222,6 @@ Reads-noted old middle new known texts token wide long wide_is long_is numbers v
 pub no_more : (texts : List (List ℕ)) → length texts ≤ length texts + 1
 no_more texts = omega arith
 
--- a text more at most
-one_more : (texts : List (List ℕ)) (text : List ℕ) → length (added texts text) ≤ length texts + 1
-one_more texts text = by (is_some (place_of texts text))
-  where
-    by : (known : Bool) → length (if known then texts else texts ++ text ∷ []) ≤ length texts + 1
-    by true = no_more texts
-    by false =
-        let more : length (texts ++ text ∷ []) ≡ length texts + 1 = length-append texts (text ∷ []) in
-        omega (arith, more)
-
 pub reads_text : (old middle new : Cursor) (known texts : List (List ℕ)) (value : List ℕ) (number : Option ℕ) (result : ℕ) → Some value ≡ next_text (left old) → Advances old middle
     → AddsText value known texts number → Notes middle new false (is_none number) → IfSome number (λ n. result ≡ n) → ReadsText old new known texts result
 reads_text old middle new known texts value None result is advances long notes given = record {
@@ -242,7 +232,7 @@ reads_text old middle new known texts value (Some n) result is advances adds not
   text = value;
   reads =
       Reads-noted old middle new known texts (Text value) false false false (is_long_text value) (numbered_text value) result (text_taken old middle value is advances) notes refl (sym adds.0)
-      (λ w l. adds.1 ∙ ap (λ r. (texts, r)) (sym given)) (subst (λ t. length t ≤ length known + 1) (ap (λ r. r.0) adds.1) (one_more known value));
+      (λ w l. adds.1 ∙ ap (λ r. (texts, r)) (sym given)) (subst (λ t. length t ≤ length known + 1) (ap (λ r. r.0) adds.1) (length-added known value).1);
 }
 
 in_range-wide : (value : ℤ) → is_none (in_range value) ≡ is_wide_number value

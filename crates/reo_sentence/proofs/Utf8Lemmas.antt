@@ -12,7 +12,7 @@ AllHigh bytes = (k : ℕ) → k < length bytes → 128 ≤ get_or bytes k 0
 high_tail : (byte : ℕ) (bytes : List ℕ) → AllHigh (byte ∷ bytes) → AllHigh bytes
 high_tail byte bytes high k here = high (suc k) (omega (arith, here))
 
-not_byte : (byte low : ℕ) → 128 ≤ byte → low < 128 → (byte == low) ≡ false
+pub not_byte : (byte low : ℕ) → 128 ≤ byte → low < 128 → (byte == low) ≡ false
 not_byte byte low high small = by (byte == low) refl
   where
     by : (same : Bool) → (byte == low) ≡ same → same ≡ false
@@ -57,7 +57,7 @@ ascii_one : (byte : ℕ) → byte < 128 → IsAscii (byte ∷ [])
 ascii_one byte low zero = low
 ascii_one byte low (suc i) = omega arith
 
-utf8_one : (byte : ℕ) (bytes : List ℕ) → byte < 128 → IsUtf8 bytes → IsUtf8 (byte ∷ bytes)
+pub utf8_one : (byte : ℕ) (bytes : List ℕ) → byte < 128 → IsUtf8 bytes → IsUtf8 (byte ∷ bytes)
 utf8_one byte bytes low utf8 = IsUtf8-append (byte ∷ []) bytes (IsUtf8-from_ascii (byte ∷ []) (ascii_one byte low)) utf8
 
 utf8_char : (c : ℕ) (bytes : List ℕ) → scalar c ≡ true → IsUtf8 bytes → IsUtf8 (encode c ++ bytes)

@@ -1,5 +1,5 @@
 -- What a line says, with its constants by number.
-use Rattle.std.specs.Prelude.{ℕ, ◌≤◌, List, Some, None, slice_range}
+use Rattle.std.specs.Prelude.{ℕ, ◌≤◌, IsUtf8, List, length, Some, None, slice_range}
 use Rattle.reo_value.specs.declared.op.Way.{Way}
 use Rattle.reo_value.specs.declared.value.Value.{Value}
 use Rattle.reo_net.specs.declared.kind.Kind as net
@@ -48,6 +48,20 @@ NamesStandIn len (sentence.Channel kind a b) = StandsIn len a × StandsIn len b
 NamesStandIn len (sentence.Component name) = StandsIn len name
 NamesStandIn len (sentence.Put node value) = StandsIn len node
 NamesStandIn len (sentence.Get node) = StandsIn len node
+
+-- a name of the line: it stands there, it is UTF-8, and it has at most 64 bytes
+pub record IsNameIn (line : List ℕ) (name : Name) : Type 0 where
+  pub stands : StandsIn (length line) name
+  pub utf8 : IsUtf8 (name_at line name)
+  pub short : length (name_at line name) ≤ 64
+
+-- all names of a sentence are
+abbrev pub AreNamesIn : List ℕ → rust.Sentence → Type 0
+AreNamesIn line (sentence.Port way node) = IsNameIn line node
+AreNamesIn line (sentence.Channel kind a b) = IsNameIn line a × IsNameIn line b
+AreNamesIn line (sentence.Component name) = IsNameIn line name
+AreNamesIn line (sentence.Put node value) = IsNameIn line node
+AreNamesIn line (sentence.Get node) = IsNameIn line node
 
 -- what a sentence of the line says
 abbrev pub said : List ℕ → rust.Sentence → Said

@@ -2,7 +2,7 @@
 ghost use Rattle.std.specs.Prelude.{◌≡◌, ◌≢◌, ◌+◌, ◌<◌, ◌≤◌, ◌^◌, [], length, All, IsUtf8, IfOk, IfErr, OnOk};
 ghost use Rattle.reo_token.specs.Cut.{cut, IsWithin};
 ghost use Rattle.reo_token.specs.declared.token.End.TheVariants.{Over as IsOver};
-ghost use Rattle.reo_sentence.specs.Said.{NamesStandIn};
+ghost use Rattle.reo_sentence.specs.Said.{AreNamesIn};
 ghost use Rattle.reo_sentence.specs.LineReading.{place_of};
 ghost use Rattle.reo_sentence.specs.ReadLine.{Says, IsRefusedLine, column_at, end_of};
 
@@ -41,7 +41,7 @@ pub fn read_line(
     requires utf8 { IsUtf8 line.now }
     requires room { length texts.old + length tokens.now ≤ 16777216 }
     ensures says { IfOk result (Says (place_of place) line.now tokens.now texts.old texts.new) }
-    ensures names { IfOk result (NamesStandIn (length line.now)) }
+    ensures names { IfOk result (AreNamesIn line.now) }
     ensures few { OnOk result (length texts.new ≤ length texts.old + length tokens.now) }
     ensures refused { IfErr result (IsRefusedLine (place_of place) line.now tokens.now) }
 {

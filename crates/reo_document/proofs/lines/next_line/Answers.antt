@@ -1,7 +1,8 @@
-use Rattle.std.proofs.Common.{◌+◌, [], ◌∷◌, map, take, drop, sym, ap, ◌∙◌}
+use Rattle.std.proofs.Common.{◌+◌, [], ◌∷◌, map, take, drop, IsUtf8, sym, ap, subst, ◌∙◌}
 use Rattle.std.proofs.lemmas.List.{take_rest}
 use Rattle.reo_document.specs.Lines.{parts_of, without_end}
 use Rattle.reo_document.proofs.LineLemmas.{lacks-before, lacks-None, parts-at, parts_of-cut, parts_of-last}
+use Rattle.reo_document.proofs.RoomLemmas.{utf8_line, utf8_before, utf8_behind}
 use Rattle.reo_document.proofs.lines.next_line.Goals as goal
 
 pub returns-in-Some-clause-exact : goal.returns-in-Some-clause-exact
@@ -15,3 +16,14 @@ returns-in-Some-clause-exact c =
 pub returns-in-None-clause-exact : goal.returns-in-None-clause-exact
 returns-in-None-clause-exact c =
     ap (λ ps. map without_end ps) (parts_of-last c.args.bytes.now (lacks-None 10 c.args.bytes.now (sym c.in-None.ensures.place))) ∙ ap (λ line. line ∷ []) (sym c.without_end-in-None.ensures.exact)
+
+pub returns-in-Some-clause-utf8 : goal.returns-in-Some-clause-utf8
+returns-in-Some-clause-utf8 c =
+    subst IsUtf8 (sym c.without_end.ensures.exact) (utf8_line (take c.in-Some.at c.args.bytes.now) (utf8_before c.args.bytes.now c.in-Some.at c.requires (sym c.in-Some.ensures.place)))
+
+pub returns-in-Some-clause-rest : goal.returns-in-Some-clause-rest
+returns-in-Some-clause-rest c =
+    subst IsUtf8 (sym (take_rest c.args.bytes.now (c.in-Some.at + 1))) (utf8_behind c.args.bytes.now c.in-Some.at c.requires (sym c.in-Some.ensures.place))
+
+pub returns-in-None-clause-utf8 : goal.returns-in-None-clause-utf8
+returns-in-None-clause-utf8 c = subst IsUtf8 (sym c.without_end-in-None.ensures.exact) (utf8_line c.args.bytes.now c.requires)

@@ -1,7 +1,8 @@
-use Rattle.std.proofs.Common.{◌≤◌, length, arith, sym, ap, subst, ◌∙◌}
+use Rattle.std.proofs.Common.{◌+◌, ◌≤◌, length, arith, sym, ap, subst, ◌∙◌}
 use Rattle.reo_token.specs.Cut.{IsEndWithin}
 use Rattle.reo_document.specs.Builder.{data_of}
 use Rattle.reo_document.proofs.ReadLemmas.{leads_bad, leads_large, leads_on, no_items}
+use Rattle.reo_document.proofs.RoomLemmas.{room_less}
 use Rattle.reo_document.proofs.builder.Builder.read.Goals as goal
 
 pub overflow_add-result : goal.overflow_add-result
@@ -20,3 +21,7 @@ returns-in-Bad-clause-stops c =
 pub returns-in-Large-clause-stops : goal.returns-in-Large-clause-stops
 returns-in-Large-clause-stops c =
     leads_large (data_of c.args.self.now) c.args.number c.args.line.now c.cut_line.new.tokens.items (ap (λ e. (c.cut_line.new.tokens.items, e)) (sym c.in-Large.is) ∙ c.in-Ok.ensures.exact)
+
+pub returns-then-is_empty-clause-room : goal.returns-then-is_empty-clause-room
+returns-then-is_empty-clause-room c =
+    λ more room. room_less (data_of c.args.self.now) (length c.args.line.now + 1 + more) more (omega arith) room
