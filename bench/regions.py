@@ -1,7 +1,7 @@
 #!/usr/bin/env python3
 """Runs the built program on circuits at their limits, and prints seconds and peak memory of each run.
 
-Usage: bench/regions.py [PROGRAM]    (default: crates/reo/out/reo, which ./reo builds)
+Usage: bench/regions.py [PROGRAM]    (default: crates/reo/out/reo, which ./reo --prove builds)
 """
 import os
 import subprocess

@@ -1,7 +1,7 @@
 #!/usr/bin/env python3
 """Runs the built program on documents at its limits, and prints seconds, steps a second and peak memory.
 
-Usage: bench/run.py [PROGRAM]    (default: crates/reo/out/reo, which ./reo builds)
+Usage: bench/run.py [PROGRAM]    (default: crates/reo/out/reo, which ./reo --prove builds)
 """
 import os
 import subprocess
