@@ -7,6 +7,7 @@ pub mod InsideLemmas
 pub mod OnceLemmas
 pub mod DistinctLemmas
 pub mod AgreeLemmas
+pub mod TrailLemmas
 pub mod MarkLemmas
 pub mod WentLemmas
 pub mod ReadLemmas

@@ -1,13 +1,11 @@
 -- The marks of a list that an automaton enters.
-use Rattle.std.proofs.Common.{◌≡◌, ℕ, ◌+◌, ◌<◌, ◌⊎◌, inl, inr, List, [], ◌∷◌, ◌++◌, length, take, drop, get_or, Bool, true, false, cond, ◌||◌, refl, sym, ◌∙◌, ap, arith, get_or-set_other, get_or-set_same, zero-add, length-append}
+use Rattle.std.proofs.Common.{◌≡◌, ℕ, ◌+◌, ◌<◌, ◌⊎◌, inl, inr, List, [], ◌∷◌, length, take, get_or, Bool, true, false, cond, ◌||◌, refl, sym, ◌∙◌, ap, arith, zero-add}
 use Rattle.std.specs.Prelude.{nat_eq}
 use Rattle.std.specs.List.{list_any}
-use Rattle.std.proofs.Math.ListN.{set, length-set}
-use Rattle.std.proofs.lemmas.Bool.{false≢true, eqb-true, eq-eqb, cases_Bool}
+use Rattle.std.proofs.lemmas.Bool.{cases_Bool}
 use Rattle.std.specs.Option.{option_map_or}
 use Rattle.std.proofs.lemmas.Option.{slice_get-get_or}
 use Rattle.std.proofs.lemmas.List.{same_lists, take_more}
-use Rattle.std.proofs.Math.Seq.{take-append_seam, drop-append_seam}
 use Rattle.std.proofs.lemmas.List.Folds.{list_any-append}
 use Rattle.reo_growth.specs.declared.web.Automaton.{Automaton}
 use Rattle.std.proofs.lemmas.List.FromFn.{get_or-map-range_with_len, length-map-range_with_len}
@@ -17,7 +15,7 @@ use Rattle.reo_growth.specs.declared.web.Web.{Web}
 use Rattle.reo_growth.specs.Lists.{has, Among}
 use Rattle.reo_growth.specs.Web.{names_of, links_of, IsWeb}
 use Rattle.reo_growth.specs.Growth.{Vertex, fired, known, is_listed, with_link}
-use Rattle.reo_growth.specs.Marks.{Changes, AreBelow, met, opened, automaton_mark, name_mark, automaton_marks, name_marks, marks_of, holders_at, is_held, AreHolders}
+use Rattle.reo_growth.specs.Marks.{Changes, AreBelow, met, opened, automaton_mark, name_mark, automaton_marks, name_marks, holders_at, is_held, AreHolders}
 use Rattle.reo_growth.proofs.ListLemmas.{same_tests, any_from, any_gives, has_among, among_has, among_at}
 
 any_or : {A : Type 0} (p q : A → Bool) (xs : List A) → list_any (λ x. p x || q x) xs ≡ (list_any p xs || list_any q xs)
@@ -31,8 +29,10 @@ any_or p q (x ∷ xs) = ap (λ rest. (p x || q x) || rest) (any_or p q xs) ∙ f
     four false false c d = refl
 
 -- how the mark of a name changes, by what the link fires, whether it fires, whether the automaton has it, whether it is known
-name_step : (link f its k : Bool) → cond (link || f) Fires (cond (its || k) Silent Unknown) ≡ cond link Fires (cond its (met (cond f Fires (cond k Silent Unknown))) (cond f Fires (cond k Silent Unknown)))
-name_step true f its k = refl
+name_step : (link f its k : Bool) → cond (link || f) Fires (cond (its || k) Silent Unknown)
+    ≡ cond its (met (cond link Fires (cond f Fires (cond k Silent Unknown)))) (cond link Fires (cond f Fires (cond k Silent Unknown)))
+name_step true f true k = refl
+name_step true f false k = refl
 name_step false true true k = refl
 name_step false true false k = refl
 name_step false false true true = refl
@@ -52,16 +52,16 @@ module _ (w : Web) (v : Vertex) (x : ℕ) (link : List ℕ) where
   wide : Vertex
   wide = with_link v x link
 
-  name_mark_next : (k : ℕ) → name_mark w (with_link v x link) k ≡ cond (has link k) Fires (cond (has (names_of w x) k) (met (name_mark w v k)) (name_mark w v k))
+  name_mark_next : (k : ℕ) → name_mark w (with_link v x link) k ≡ cond (has (names_of w x) k) (met (cond (has link k) Fires (name_mark w v k))) (cond (has link k) Fires (name_mark w v k))
   unfolding name_mark fired known with_link
   name_mark_next k = name_step (has link k) (fired v k) (has (names_of w x) k) (known w v k)
 
-  pub names_entered : (old middle new : List Mark) → old ≡ name_marks w v → Changes (has (names_of w x)) met old middle → Changes (has link) (λ _. Fires) middle new → new ≡ name_marks w (with_link v x link)
+  pub names_entered : (old middle new : List Mark) → old ≡ name_marks w v → Changes (has link) (λ _. Fires) old middle → Changes (has (names_of w x)) met middle new → new ≡ name_marks w (with_link v x link)
   names_entered old middle new is first second =
       same_lists new (name_marks w (with_link v x link)) (size ∙ sym (length-map-range_with_len (name_mark w (with_link v x link)) 0 w.names)) (λ k d below.
       let within : k < w.names = omega (arith, size) in
       second.1 k d (omega (arith, first.0, size_old))
-      ∙ ap (λ m. cond (has link k) Fires m) (first.1 k d (omega (arith, size_old)) ∙ ap (λ m. cond (has (names_of w x) k) (met m) m) (old_at k d within))
+      ∙ ap (λ m. cond (has (names_of w x) k) (met m) m) (first.1 k d (omega (arith, size_old)) ∙ ap (λ m. cond (has link k) Fires m) (old_at k d within))
       ∙ sym (name_mark_next k) ∙ sym (get_or-map-range_with_len (name_mark w (with_link v x link)) 0 w.names k k d within (zero-add k)))
     where
       size_old : length old ≡ w.names
@@ -95,25 +95,23 @@ module _ (w : Web) (v : Vertex) (x : ℕ) (link : List ℕ) where
     unfolding automaton_mark is_listed with_link
     automaton_mark_here y here = ap (λ b. cond (b || is_listed v y) Listed (cond (list_any (fired (with_link v x link)) (names_of w y)) Open Absent)) here
 
-    pub automata_entered : (old middle : List Mark) → old ≡ automaton_marks w v → x < length w.automata → Changes (is_held holders link) opened old middle → set middle x Listed ≡ automaton_marks w (with_link v x link)
-    automata_entered old middle is below changes =
-        same_lists (set middle x Listed) (automaton_marks w (with_link v x link)) (length-set middle x Listed ∙ size ∙ sym (length-map-range_with_len (automaton_mark w (with_link v x link)) 0 (length w.automata))) (λ k d at.
-        let within : k < length w.automata = omega (arith, size, length-set middle x Listed) in
-        at_place k d within (cases_Bool (nat_eq x k)) ∙ sym (get_or-map-range_with_len (automaton_mark w (with_link v x link)) 0 (length w.automata) k k d within (zero-add k)))
+    pub automata_entered : (old middle new : List Mark) → old ≡ automaton_marks w v → Changes (is_held holders link) opened old middle → Changes (nat_eq x) (λ _. Listed) middle new → new ≡ automaton_marks w (with_link v x link)
+    automata_entered old middle new is changes listed =
+        same_lists new (automaton_marks w (with_link v x link)) (size ∙ sym (length-map-range_with_len (automaton_mark w (with_link v x link)) 0 (length w.automata))) (λ k d at.
+        let within : k < length w.automata = omega (arith, size) in
+        listed.1 k d (omega (arith, size_old, changes.0)) ∙ at_place k d within (cases_Bool (nat_eq x k))
+        ∙ sym (get_or-map-range_with_len (automaton_mark w (with_link v x link)) 0 (length w.automata) k k d within (zero-add k)))
       where
         size_old : length old ≡ length w.automata
         size_old = ap length is ∙ length-map-range_with_len (automaton_mark w v) 0 (length w.automata)
 
-        size : length middle ≡ length w.automata
-        size = changes.0 ∙ size_old
+        size : length new ≡ length w.automata
+        size = listed.0 ∙ changes.0 ∙ size_old
 
-        at_place : (k : ℕ) (d : Mark) → k < length w.automata → (nat_eq x k ≡ true) ⊎ (nat_eq x k ≡ false) → get_or (set middle x Listed) k d ≡ automaton_mark w (with_link v x link) k
-        at_place k d within (inl here) =
-            let e : x ≡ k = eqb-true x k here in
-            ap (λ y. get_or (set middle x Listed) y d) (sym e) ∙ get_or-set_same middle x Listed d (omega (arith, size)) ∙ sym (automaton_mark_here k here)
+        at_place : (k : ℕ) (d : Mark) → k < length w.automata → (nat_eq x k ≡ true) ⊎ (nat_eq x k ≡ false) → cond (nat_eq x k) Listed (get_or middle k d) ≡ automaton_mark w (with_link v x link) k
+        at_place k d within (inl here) = ap (λ b. cond b Listed (get_or middle k d)) here ∙ sym (automaton_mark_here k here)
         at_place k d within (inr other) =
-            let ne : k ≡ x → ⊥ = λ e. false≢true (sym other ∙ eq-eqb x k (sym e)) in
-            get_or-set_other middle x k Listed d ne ∙ changes.1 k d (omega (arith, size_old))
+            ap (λ b. cond b Listed (get_or middle k d)) other ∙ changes.1 k d (omega (arith, size_old))
             ∙ ap (λ m. cond (is_held holders link k) (opened m) m) (ap (λ xs. get_or xs k d) is ∙ get_or-map-range_with_len (automaton_mark w v) 0 (length w.automata) k k d within (zero-add k))
             ∙ sym (automaton_mark_next k other)
 
@@ -152,6 +150,18 @@ is_held_more holders link i k name holder within is held =
     ∙ or_last (is_held holders (take i link) k) (has (holders_at holders (get_or link i 0)) k)
     ∙ ap (λ xs. is_held holders (take i link) k || has xs k) (ap (holders_at holders) (sym is) ∙ sym held)
 
+pub has_more : (xs : List ℕ) (i k : ℕ) → i < length xs → has (take (i + 1) xs) k ≡ (has (take i xs) k || nat_eq (get_or xs i 0) k)
+has_more xs i k within =
+    ap (λ ys. has ys k) (take_more xs i 0 within) ∙ list_any-append (λ x. nat_eq x k) (take i xs) (get_or xs i 0 ∷ []) ∙ or_last (has (take i xs) k) (nat_eq (get_or xs i 0) k)
+
+pub met_again : (m : Mark) → met (met m) ≡ met m
+met_again Absent = refl
+met_again Open = refl
+met_again Listed = refl
+met_again Unknown = refl
+met_again Silent = refl
+met_again Fires = refl
+
 -- what stands at a place of the web
 pub names_at : (w : Web) (x : ℕ) (all : List Automaton) (d : Automaton) → x < length w.automata → all ≡ w.automata → names_of w x ≡ (get_or all x d).names
 unfolding names_of
@@ -175,26 +185,3 @@ length-automaton_marks w v = length-map-range_with_len (automaton_mark w v) 0 (l
 
 pub length-name_marks : (w : Web) (v : Vertex) → length (name_marks w v) ≡ w.names
 length-name_marks w v = length-map-range_with_len (name_mark w v) 0 w.names
-
-pub front_of : (w : Web) (v : Vertex) (marks : List Mark) → marks ≡ marks_of w v → take (length w.automata) marks ≡ automaton_marks w v
-unfolding marks_of
-front_of w v marks is = ap (take (length w.automata)) is ∙ ap (λ n. take n (automaton_marks w v ++ name_marks w v)) (sym (length-automaton_marks w v)) ∙ take-append_seam (automaton_marks w v) (name_marks w v)
-
-pub back_of : (w : Web) (v : Vertex) (marks : List Mark) → marks ≡ marks_of w v → drop (length w.automata) marks ≡ name_marks w v
-unfolding marks_of
-back_of w v marks is = ap (drop (length w.automata)) is ∙ ap (λ n. drop n (automaton_marks w v ++ name_marks w v)) (sym (length-automaton_marks w v)) ∙ drop-append_seam (automaton_marks w v) (name_marks w v)
-
--- the marks, when all that an automaton changes by entering is changed
-pub entered : (w : Web) → IsWeb w → (holders : List (List ℕ)) → AreHolders w holders → (v : Vertex) (x : ℕ) (link : List ℕ) → Among link (links_of w x) → x < length w.automata
-    → (marks front back known fires opens : List Mark) → marks ≡ marks_of w v → front ≡ take (length w.automata) marks → back ≡ drop (length w.automata) marks
-    → Changes (has (names_of w x)) met back known → Changes (has link) (λ _. Fires) known fires → Changes (is_held holders link) opened front opens
-    → set opens x Listed ++ fires ≡ marks_of w (with_link v x link)
-unfolding marks_of
-entered w is_web holders right v x link its below marks front back known fires opens is at_front at_back knows fire open_all =
-    let first = automata_entered w v x link is_web holders right its front opens (at_front ∙ front_of w v marks is) below open_all in
-    let second = names_entered w v x link back known fires (at_back ∙ back_of w v marks is) knows fire in
-    ap (λ xs. xs ++ fires) first ∙ ap (λ ys. automaton_marks w (with_link v x link) ++ ys) second
-
-pub length-marks_of : (w : Web) (v : Vertex) → length (marks_of w v) ≡ length w.automata + w.names
-unfolding marks_of
-length-marks_of w v = length-append (automaton_marks w v) (name_marks w v) ∙ ap (λ n. n + length (name_marks w v)) (length-automaton_marks w v) ∙ ap (λ n. length w.automata + n) (length-name_marks w v)

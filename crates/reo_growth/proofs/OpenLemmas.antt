@@ -1,17 +1,16 @@
 -- Before which automaton none is open.
-use Rattle.std.proofs.Common.{◌≡◌, ℕ, ◌+◌, ◌-◌, ◌<◌, ◌≤◌, ◌⊎◌, inl, inr, ⊎_elim, List, [], ◌++◌, length, take, drop, get_or, replicate, Bool, true, false, not, cond, ◌||◌, Some, None, sym, ◌∙◌, ap, subst, arith, get_or-set_other, get_or-set_same}
-use Rattle.std.specs.Prelude.{nat_lt, position}
+use Rattle.std.proofs.Common.{◌≡◌, ℕ, ◌+◌, ◌-◌, ◌<◌, ◌≤◌, ◌⊎◌, inl, inr, ⊎_elim, List, [], length, drop, get_or, Bool, true, false, not, cond, ◌||◌, Some, None, sym, ◌∙◌, ap, subst, arith}
+use Rattle.std.specs.Prelude.{nat_eq, nat_lt, position}
 use Rattle.std.specs.Option.{option_map}
 use Rattle.std.specs.List.{position_or_len}
-use Rattle.std.proofs.Math.ListN.{set, length-set}
-use Rattle.std.proofs.lemmas.Bool.{not-true, not-false, or_cases, cases_lt, cases_eq, lt-ltb, le-ltb, false_from_ne_true}
-use Rattle.std.proofs.lemmas.List.{get_or_default, length-drop, get_or-drop, get_or-take, get_or_append_left, length-replicate, get_or-replicate}
+use Rattle.std.proofs.lemmas.Bool.{eq-eqb, ne_eqb, not-true, not-false, or_cases, cases_lt, cases_eq, lt-ltb, le-ltb, false_from_ne_true}
+use Rattle.std.proofs.lemmas.List.{get_or_default, length-drop, get_or-drop, length-replicate, get_or-replicate}
 use Rattle.std.proofs.lemmas.List.Sums.{prefix_len_passes, prefix_len_stops, prefix_len-le-length, position_or_len_is}
 use Rattle.reo_growth.specs.declared.marks.Mark.{Mark}
-use Rattle.reo_growth.specs.declared.marks.Mark.TheVariants.{Absent, Listed, Unknown}
+use Rattle.reo_growth.specs.declared.marks.Mark.TheVariants.{Absent, Listed}
 use Rattle.reo_growth.specs.declared.web.Web.{Web}
-use Rattle.reo_growth.specs.Marks.{Changes, IsBefore, NoneOpenBefore, is_open_mark, opened, marks_of}
-use Rattle.reo_growth.proofs.TableLemmas.{marks_of_none}
+use Rattle.reo_growth.specs.Marks.{Changes, IsBefore, NoneOpenBefore, is_open_mark, opened, automaton_marks}
+use Rattle.reo_growth.proofs.TableLemmas.{automaton_marks_of_none}
 
 -- where none before a place passes, the first that passes is the first from there on
 pub position_from : (p : Mark → Bool) (xs : List Mark) (from : ℕ) → from ≤ length xs → ((k : ℕ) (d : Mark) → k < from → k < length xs → p (get_or xs k d) ≡ false)
@@ -65,26 +64,26 @@ before_more p q r either start middle least first second = (
 )
 
 -- when an automaton that was the least to be open has entered
-pub before_entered : (n x least : ℕ) (marks front opens fires : List Mark) (held : ℕ → Bool) → x < n → length front ≡ n → front ≡ take n marks → NoneOpenBefore x marks
-    → Changes held opened front opens → IsBefore held (x + 1) least → n ≤ length marks → NoneOpenBefore least (set opens x Listed ++ fires)
-before_entered n x least marks front opens fires held below long is before changes first within k d less here =
-    ap is_open_mark (get_or_append_left (set opens x Listed) fires d k (omega (arith, length-set opens x Listed, changes.0, first.0))) ∙ go (cases_eq k x)
+pub before_entered : (x least : ℕ) (old middle new : List Mark) (held : ℕ → Bool) → NoneOpenBefore x old → Changes held opened old middle → Changes (nat_eq x) (λ _. Listed) middle new
+    → IsBefore held (x + 1) least → NoneOpenBefore least new
+before_entered x least old middle new held before changes listed first k d less here =
+    ap is_open_mark (listed.1 k d (omega (arith, listed.0))) ∙ go (cases_eq k x)
   where
-    go : (k ≡ x) ⊎ (k ≡ x → ⊥) → is_open_mark (get_or (set opens x Listed) k d) ≡ false
-    go (inl same) = ap (λ y. is_open_mark (get_or (set opens x Listed) y d)) same ∙ ap is_open_mark (get_or-set_same opens x Listed d (omega (arith, changes.0)))
+    go : (k ≡ x) ⊎ (k ≡ x → ⊥) → is_open_mark (cond (nat_eq x k) Listed (get_or middle k d)) ≡ false
+    go (inl same) = ap (λ b. is_open_mark (cond b Listed (get_or middle k d))) (eq-eqb x k (sym same))
     go (inr other) =
         let early : k < x = omega (arith, first.0) in
+        let within : k < length old = omega (arith, listed.0, changes.0) in
         let free : held k ≡ false = false_from_ne_true (held k) (λ h. let m = first.1 k h in omega arith) in
-        ap is_open_mark (get_or-set_other opens x k Listed d other ∙ changes.1 k d (omega arith) ∙ ap (λ b. cond b (opened (get_or front k d)) (get_or front k d)) free ∙ ap (λ xs. get_or xs k d) is ∙ get_or-take n marks k d (omega arith))
-        ∙ before k d early (omega arith)
+        ap (λ b. is_open_mark (cond b Listed (get_or middle k d))) (ne_eqb x k (λ e. other (sym e)))
+        ∙ ap is_open_mark (changes.1 k d within ∙ ap (λ b. cond b (opened (get_or old k d)) (get_or old k d)) free) ∙ before k d early within
 
-pub none_open : (w : Web) (marks : List Mark) (x : ℕ) → x < length w.automata → marks ≡ marks_of w [] → NoneOpenBefore x marks
-none_open w marks x below is k d less here =
-    ap (λ xs. is_open_mark (get_or xs k d)) (is ∙ marks_of_none w)
-    ∙ ap is_open_mark (get_or_append_left (replicate (length w.automata) Absent) (replicate w.names Unknown) d k (omega (arith, length-replicate (length w.automata) Absent))
-    ∙ get_or-replicate (length w.automata) k Absent d (omega arith))
+pub none_open : (w : Web) (marks : List Mark) (x : ℕ) → marks ≡ automaton_marks w [] → NoneOpenBefore x marks
+none_open w marks x is k d less here =
+    let all = is ∙ automaton_marks_of_none w in
+    ap (λ xs. is_open_mark (get_or xs k d)) all
+    ∙ ap is_open_mark (get_or-replicate (length w.automata) k Absent d (omega (arith, ap length all, length-replicate (length w.automata) Absent)))
 
 -- none before the first is open
-pub first_before : (marks front : List Mark) (n x : ℕ) → front ≡ take n marks → x < n → ((k : ℕ) → k < x → is_open_mark (get_or front k Absent) ≡ false) → NoneOpenBefore x marks
-first_before marks front n x is below before k d less here =
-    ap is_open_mark (get_or_default marks k d Absent here ∙ sym (get_or-take n marks k Absent (omega arith)) ∙ ap (λ xs. get_or xs k Absent) (sym is)) ∙ before k less
+pub first_before : (marks : List Mark) (x : ℕ) → ((k : ℕ) → k < x → is_open_mark (get_or marks k Absent) ≡ false) → NoneOpenBefore x marks
+first_before marks x before k d less here = ap is_open_mark (get_or_default marks k d Absent here) ∙ before k less

@@ -1,8 +1,8 @@
 -- What the marks of a list tell of it.
-use Rattle.std.proofs.Common.{◌≡◌, ℕ, ◌+◌, ◌<◌, ◌≤◌, ◌⊎◌, inl, inr, List, [], ◌∷◌, length, get_or, Bool, true, false, not, cond, ◌||◌, ◌&&◌, Option, Some, None, refl, sym, ◌∙◌, ap, arith, zero-add}
-use Rattle.std.specs.Prelude.{nat_lt, filter, position}
+use Rattle.std.proofs.Common.{◌≡◌, ℕ, ◌+◌, ◌<◌, ◌≤◌, ◌⊎◌, inl, inr, ⊎_elim, List, [], ◌∷◌, length, get_or, Bool, true, false, not, cond, ◌||◌, ◌&&◌, Option, Some, None, refl, sym, ◌∙◌, ap, subst, arith, zero-add}
+use Rattle.std.specs.Prelude.{nat_eq, nat_lt, filter, position}
 use Rattle.std.specs.List.{list_any, list_all, find, range_with_len, position_or_len}
-use Rattle.std.proofs.lemmas.Bool.{false≢true, true≢false, cases_order, not-true, ltb-false}
+use Rattle.std.proofs.lemmas.Bool.{false≢true, true≢false, cases_order, not-true, eq-eqb, ltb-false}
 use Rattle.std.proofs.lemmas.List.FromFn.{get_or-map-range_with_len, length-map-range_with_len}
 use Rattle.std.proofs.lemmas.List.Quantifiers.{position-Some}
 use Rattle.std.proofs.lemmas.List.Sums.{prefix_len_passes}
@@ -10,11 +10,13 @@ use Rattle.reo_growth.specs.declared.marks.Mark.{Mark}
 use Rattle.reo_growth.specs.declared.marks.Mark.TheVariants.{Absent, Open, Listed, Unknown, Silent, Fires}
 use Rattle.reo_growth.specs.declared.web.Web.{Web}
 use Rattle.reo_growth.specs.Lists.{has, Among}
-use Rattle.reo_growth.specs.Web.{names_of, IsWeb}
-use Rattle.reo_growth.specs.Growth.{Vertex, fired, known, same, is_listed, is_open, least_open, agrees_as_one, fits, places, firing_names}
-use Rattle.reo_growth.specs.Marks.{allows, is_open_mark, is_fires, automaton_mark, name_mark, automaton_marks, name_marks}
+use Rattle.reo_growth.specs.Web.{names_of, links_of, IsWeb}
+use Rattle.reo_growth.specs.Ground.{ArePartners, joins}
+use Rattle.reo_growth.specs.Growth.{Vertex, with_link, fired, known, same, is_listed, is_open, least_open, agrees_as_one, fits, places, firing_names}
+use Rattle.reo_growth.specs.Marks.{allows, is_open_mark, is_fires, is_free, holders_at, automaton_mark, name_mark, automaton_marks, name_marks}
 use Rattle.reo_growth.specs.Found.{fired_places}
-use Rattle.reo_growth.proofs.ListLemmas.{among_has, range_gives, find_gives, find_fails, all_among}
+use Rattle.reo_growth.proofs.ListLemmas.{same_tests, any_from, all_gives, all_from, has_among, among_has, range_gives, find_gives, find_fails, all_among}
+use Rattle.reo_growth.proofs.TableLemmas.{joined_gives}
 
 all_same : {A : Type 0} (p q : A → Bool) (xs : List A) → ((x : A) → Among x xs → p x ≡ q x) → list_all p xs ≡ list_all q xs
 all_same p q [] h = refl
@@ -118,11 +120,74 @@ module _ (w : Web) (v : Vertex) where
       go false true false know = refl
       go false false b know = refl
 
-  -- and whether the list fits
-  pub fits_read : (marks : List Mark) → marks ≡ name_marks w v → IsWeb w → list_all (λ cell. not (is_fires (get_or marks cell.0 Unknown) && is_fires (get_or marks cell.1 Unknown))) w.cells ≡ fits w v
-  unfolding fits
-  fits_read marks is is_web =
-      all_same (λ cell. not (is_fires (get_or marks cell.0 Unknown) && is_fires (get_or marks cell.1 Unknown))) (λ cell. not (fired v cell.0 && fired v cell.1)) w.cells (λ cell at.
-      let ends = all_among (λ cell. (cell.0 < w.names) × (cell.1 < w.names)) w.cells is_web.ends cell at in
-      let one = λ (name : ℕ) (below : name < w.names). ap is_fires (ap (λ ms. get_or ms name Unknown) is ∙ name_at name Unknown below) ∙ fires_mark name in
-      ap (λ b. not (b && is_fires (get_or marks cell.1 Unknown))) (one cell.0 ends.0) ∙ ap (λ b. not (fired v cell.0 && b)) (one cell.1 ends.1))
+  -- and whether the list fits with one move more, where it fits without
+  module _ (marks : List Mark) (are : marks ≡ name_marks w v) (is_web : IsWeb w) (partners : List (List ℕ)) (joined : ArePartners w partners) (x : ℕ) (link : List ℕ) (its : Among link (links_of w x)) where
+    below_of : (name : ℕ) → has link name ≡ true → name < w.names
+    below_of name h = is_web.below x name (is_web.own x link its name h)
+
+    free_is : (other : ℕ) → other < w.names → is_free marks link other ≡ not (fired v other || has link other)
+    free_is other below = ap (λ b. not (b || has link other)) (ap is_fires (ap (λ ms. get_or ms other Unknown) are ∙ name_at other Unknown below) ∙ fires_mark other)
+
+    clear : ℕ → Bool
+    clear name = list_all (is_free marks link) (holders_at partners name)
+
+    clear_gives : (name other : ℕ) → has link name ≡ true → clear name ≡ true → other < w.names → list_any (joins name other) w.cells ≡ true → (fired v other || has link other) ≡ false
+    unfolding clear
+    clear_gives name other h all below any =
+        let there = has_among (holders_at partners name) other (joined.have name other (below_of name h) ∙ any) in
+        not-true (fired v other || has link other) (sym (free_is other below) ∙ all_gives (is_free marks link) (holders_at partners name) other all there)
+
+    both_ends : (la lb fa fb : Bool) → (la ≡ true → (fb || lb) ≡ false) → (lb ≡ true → (fa || la) ≡ false) → not (fa && fb) ≡ true → not ((la || fa) && (lb || fb)) ≡ true
+    both_ends true true fa true one other old = absurd (true≢false (one refl))
+    both_ends true true fa false one other old = absurd (true≢false (one refl))
+    both_ends true false fa true one other old = absurd (true≢false (one refl))
+    both_ends true false fa false one other old = refl
+    both_ends false true true fb one other old = absurd (true≢false (other refl))
+    both_ends false true false fb one other old = refl
+    both_ends false false fa fb one other old = old
+
+    no_end : (la lb fa fb : Bool) → la ≡ true → not ((la || fa) && (lb || fb)) ≡ true → not (fb || lb) ≡ true
+    no_end true true fa fb is fit = absurd (false≢true fit)
+    no_end true false fa true is fit = absurd (false≢true fit)
+    no_end true false fa false is fit = refl
+    no_end false lb fa fb is fit = absurd (false≢true is)
+
+    no_first : (la lb fa fb : Bool) → lb ≡ true → not ((la || fa) && (lb || fb)) ≡ true → not (fa || la) ≡ true
+    no_first true true fa fb is fit = absurd (false≢true fit)
+    no_first false true true fb is fit = absurd (false≢true fit)
+    no_first false true false fb is fit = refl
+    no_first la false fa fb is fit = absurd (false≢true is)
+
+    joins_here : (a b : ℕ) → joins a b (a, b) ≡ true
+    joins_here a b = ap (λ p. (p && nat_eq b b) || (nat_eq b a && nat_eq a b)) (eq-eqb a a refl) ∙ ap (λ p. p || (nat_eq b a && nat_eq a b)) (eq-eqb b b refl)
+
+    joins_there : (a b : ℕ) → joins b a (a, b) ≡ true
+    joins_there a b =
+        ap (λ p. (nat_eq a b && nat_eq b a) || (p && nat_eq a a)) (eq-eqb b b refl) ∙ ap (λ p. (nat_eq a b && nat_eq b a) || p) (eq-eqb a a refl)
+        ∙ or_true (nat_eq a b && nat_eq b a)
+      where
+        or_true : (b : Bool) → (b || true) ≡ true
+        or_true true = refl
+        or_true false = refl
+
+    pub fits_read : fits w v ≡ true → list_all (λ name. list_all (is_free marks link) (holders_at partners name)) link ≡ fits w (with_link v x link)
+    unfolding clear fits fired with_link
+    fits_read fit = same_tests (list_all clear link) (fits w (with_link v x link))
+        (λ all. all_from (λ cell. not (fired (with_link v x link) cell.0 && fired (with_link v x link) cell.1)) w.cells (λ cell at.
+        let ends = all_among (λ cell. (cell.0 < w.names) × (cell.1 < w.names)) w.cells is_web.ends cell at in
+        both_ends (has link cell.0) (has link cell.1) (fired v cell.0) (fired v cell.1)
+        (λ h. clear_gives cell.0 cell.1 h (all_gives clear link cell.0 all (has_among link cell.0 h)) ends.1 (any_from (joins cell.0 cell.1) w.cells cell at (joins_here cell.0 cell.1)))
+        (λ h. clear_gives cell.1 cell.0 h (all_gives clear link cell.1 all (has_among link cell.1 h)) ends.0 (any_from (joins cell.1 cell.0) w.cells cell at (joins_there cell.0 cell.1)))
+        (all_gives (λ cell. not (fired v cell.0 && fired v cell.1)) w.cells cell fit at)))
+        (λ wide. all_from clear link (λ name at. all_from (is_free marks link) (holders_at partners name) (λ other there.
+        let h = among_has link name at in
+        let j = joined_gives w w.cells name other (sym (joined.have name other (below_of name h)) ∙ among_has (holders_at partners name) other there) in
+        let cell : ℕ × ℕ = (j.0, j.1) in
+        let ends = all_among (λ cell. (cell.0 < w.names) × (cell.1 < w.names)) w.cells is_web.ends cell j.2 in
+        let fit = all_gives (λ cell. not (fired (with_link v x link) cell.0 && fired (with_link v x link) cell.1)) w.cells cell wide j.2 in
+        ⊎_elim
+        (λ same. free_is other (subst (λ n. n < w.names) same.1 ends.1)
+        ∙ subst (λ n. not (fired v n || has link n) ≡ true) same.1 (no_end (has link j.0) (has link j.1) (fired v j.0) (fired v j.1) (ap (has link) same.0 ∙ h) fit))
+        (λ same. free_is other (subst (λ n. n < w.names) same.1 ends.0)
+        ∙ subst (λ n. not (fired v n || has link n) ≡ true) same.1 (no_first (has link j.0) (has link j.1) (fired v j.0) (fired v j.1) (ap (has link) same.0 ∙ h) fit))
+        j.3)))

@@ -1,18 +1,20 @@
 -- The holders of names, and the marks of the list with no automaton.
-use Rattle.std.proofs.Common.{◌≡◌, ℕ, zero, suc, ◌+◌, ◌-◌, ◌<◌, ◌⊎◌, inl, inr, List, [], ◌∷◌, ◌++◌, length, map, take, get_or, Bool, true, false, cond, ◌||◌, ◌&&◌, refl, sym, ◌∙◌, ap, arith, replicate}
+use Rattle.std.proofs.Common.{◌≡◌, ℕ, zero, suc, ◌+◌, ◌<◌, ◌⊎◌, inl, inr, ⊎_elim, List, [], ◌∷◌, length, map, take, get_or, Bool, true, false, cond, ◌||◌, ◌&&◌, refl, sym, ◌∙◌, ap, subst, arith, replicate}
 use Rattle.std.specs.Prelude.{nat_eq, nat_lt}
 use Rattle.std.specs.List.{list_any, range_with_len}
-use Rattle.std.proofs.lemmas.Bool.{false≢true, eq-eqb, cases_Bool, cases_order, lt-ltb, le-ltb, ne_eqb, and_parts}
-use Rattle.std.proofs.lemmas.List.{get_or_default, take_all, length-replicate}
+use Rattle.std.proofs.lemmas.Bool.{false≢true, eq-eqb, eqb-true, cases_Bool, cases_order, lt-ltb, le-ltb, ne_eqb, and_parts, or_cases}
+use Rattle.std.proofs.lemmas.List.{get_or_default, take_more}
+use Rattle.std.proofs.lemmas.List.Folds.{list_any-append}
 use Rattle.reo_growth.specs.declared.marks.Mark.{Mark}
 use Rattle.reo_growth.specs.declared.marks.Mark.TheVariants.{Absent, Open, Unknown}
 use Rattle.reo_growth.specs.declared.web.Web.{Web}
-use Rattle.reo_growth.specs.Lists.{has}
-use Rattle.reo_growth.specs.Web.{names_of}
+use Rattle.reo_growth.specs.Lists.{has, Among}
+use Rattle.reo_growth.specs.Web.{names_of, IsWeb}
 use Rattle.reo_growth.specs.Growth.{fired, known, is_listed}
-use Rattle.reo_growth.specs.Marks.{AreHolders, automaton_mark, name_mark, name_marks, marks_of, holders_at}
+use Rattle.reo_growth.specs.Marks.{AreHolders, automaton_mark, name_mark, automaton_marks, name_marks, holders_at}
+use Rattle.reo_growth.specs.Ground.{ArePartners, joins}
 use Rattle.reo_growth.specs.Search.{AddsHolder}
-use Rattle.reo_growth.proofs.ListLemmas.{same_tests}
+use Rattle.reo_growth.proofs.ListLemmas.{same_tests, any_gives, all_among}
 use Rattle.reo_growth.proofs.VertexLemmas.{name_within}
 use Rattle.reo_growth.proofs.MarkLemmas.{below_from}
 
@@ -68,13 +70,60 @@ module _ (w : Web) where
   none_fires [] = refl
   none_fires (x ∷ xs) = none_fires xs
 
-  pub marks_of_none : marks_of w [] ≡ replicate (length w.automata) Absent ++ replicate w.names Unknown
-  unfolding marks_of automaton_mark name_mark is_listed fired known
-  marks_of_none =
-      ap (λ xs. xs ++ name_marks w []) (map_all (automaton_mark w []) Absent (λ x. ap (λ b. cond b Open Absent) (none_fires (names_of w x))) 0 (length w.automata))
-      ∙ ap (λ xs. replicate (length w.automata) Absent ++ xs) (map_all (name_mark w []) Unknown (λ name. refl) 0 w.names)
+  pub automaton_marks_of_none : automaton_marks w [] ≡ replicate (length w.automata) Absent
+  unfolding automaton_mark is_listed fired
+  automaton_marks_of_none = map_all (automaton_mark w []) Absent (λ x. ap (λ b. cond b Open Absent) (none_fires (names_of w x))) 0 (length w.automata)
 
-pub resized : (n m len : ℕ) (marks : List Mark) → marks ≡ replicate n Absent → len ≡ n → take (n + m) marks ++ replicate (n + m - len) Unknown ≡ replicate n Absent ++ replicate m Unknown
-resized n m len marks is at =
-    ap (λ xs. xs ++ replicate (n + m - len) Unknown) (ap (take (n + m)) is ∙ take_all (n + m) (replicate n Absent) (omega (arith, length-replicate n Absent)))
-    ∙ ap (λ k. replicate n Absent ++ replicate k Unknown) (let e : n + m - len ≡ m = omega arith in e)
+  pub name_marks_of_none : name_marks w [] ≡ replicate w.names Unknown
+  unfolding name_mark fired known
+  name_marks_of_none = map_all (name_mark w []) Unknown (λ name. refl) 0 w.names
+
+  -- the ends of the first FIFO1s are joined, so those of one more are when it is added
+  pub partners_more : (cells : List (ℕ × ℕ)) (i a b : ℕ) (old middle new : List (List ℕ)) → i < length cells → get_or cells i (0, 0) ≡ (a, b) → length old ≡ w.names
+      → AddsHolder b (a ∷ []) old middle → AddsHolder a (b ∷ []) middle new
+      → ((one other : ℕ) → one < w.names → has (holders_at old one) other ≡ list_any (joins one other) (take i cells))
+      → (one other : ℕ) → one < w.names → has (holders_at new one) other ≡ list_any (joins one other) (take (i + 1) cells)
+  partners_more cells i a b old middle new within is long first second before one other below =
+      second.1 other one (omega (arith, first.0)) ∙ ap (λ h. h || (nat_eq a other && has (b ∷ []) one)) (first.1 other one (omega arith) ∙ ap (λ h. h || (nat_eq b other && has (a ∷ []) one)) (before one other below))
+      ∙ either (list_any (joins one other) (take i cells)) (nat_eq a one) (nat_eq b other) (nat_eq b one) (nat_eq a other)
+      ∙ ap (λ cell. list_any (joins one other) (take i cells) || (joins one other cell || false)) (sym is)
+      ∙ sym (ap (list_any (joins one other)) (take_more cells i (0, 0) within) ∙ list_any-append (joins one other) (take i cells) (get_or cells i (0, 0) ∷ []))
+    where
+      either : (h p q r s : Bool) → ((h || (q && (p || false))) || (s && (r || false))) ≡ (h || (((p && q) || (r && s)) || false))
+      either true p q r s = refl
+      either false true true r s = refl
+      either false true false true true = refl
+      either false true false true false = refl
+      either false true false false true = refl
+      either false true false false false = refl
+      either false false true true true = refl
+      either false false true true false = refl
+      either false false true false true = refl
+      either false false true false false = refl
+      either false false false true true = refl
+      either false false false true false = refl
+      either false false false false true = refl
+      either false false false false false = refl
+
+  pub joined_gives : (cells : List (ℕ × ℕ)) (one other : ℕ) → list_any (joins one other) cells ≡ true → (a : ℕ) × (b : ℕ) × Among (a, b) cells × (((a ≡ one) × (b ≡ other)) ⊎ ((b ≡ one) × (a ≡ other)))
+  joined_gives cells one other h =
+      let f = any_gives (joins one other) cells h in (
+        f.0.0,
+        f.0.1,
+        f.1,
+        ⊎_elim
+            (λ both. let p = and_parts (nat_eq f.0.0 one) (nat_eq f.0.1 other) both in inl (eqb-true f.0.0 one p.0, eqb-true f.0.1 other p.1))
+            (λ both. let p = and_parts (nat_eq f.0.1 one) (nat_eq f.0.0 other) both in inr (eqb-true f.0.1 one p.0, eqb-true f.0.0 other p.1))
+            (or_cases (nat_eq f.0.0 one && nat_eq f.0.1 other) (nat_eq f.0.1 one && nat_eq f.0.0 other) f.2),
+      )
+
+  pub are_partners : IsWeb w → (table : List (List ℕ)) → length table ≡ w.names
+      → ((one other : ℕ) → one < w.names → has (holders_at table one) other ≡ list_any (joins one other) w.cells) → ArePartners w table
+  are_partners is_web table long have = record {
+    long = long;
+    below = λ name d within. below_from w.names (get_or table name d) (λ other h.
+        let j = joined_gives w.cells name other (sym (have name other (omega arith)) ∙ ap (λ holders. has holders other) (get_or_default table name [] d within) ∙ h) in
+        let ends = all_among (λ cell. (cell.0 < w.names) × (cell.1 < w.names)) w.cells is_web.ends (j.0, j.1) j.2 in
+        ⊎_elim (λ same. subst (λ n. n < w.names) same.1 ends.1) (λ same. subst (λ n. n < w.names) same.1 ends.0) j.3);
+    have = have;
+  }

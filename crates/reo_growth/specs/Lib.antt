@@ -3,6 +3,7 @@ pub mod Web
 pub mod Growth
 pub mod Laws
 pub mod Marks
+pub mod Trail
 pub mod Ground
 pub mod Found
 pub mod Sound

@@ -1,5 +1,5 @@
 -- Words that mirror the code of growth: what it marks of a partial firing.
-use Rattle.std.specs.Prelude.{◌≡◌, ℕ, ◌<◌, ◌≤◌, List, [], ◌++◌, length, map, slice_index_or, Bool, true, false, not, if◌then◌else◌, All}
+use Rattle.std.specs.Prelude.{◌≡◌, ℕ, ◌<◌, ◌≤◌, List, [], length, map, slice_index_or, Bool, true, false, not, ◌||◌, if◌then◌else◌, All}
 use Rattle.std.specs.List.{list_any, range_with_len}
 use Rattle.reo_growth.specs.declared.marks.Mark.{Mark}
 use Rattle.reo_growth.specs.declared.marks.Mark.TheVariants.{Absent, Open, Listed, Unknown, Silent, Fires}
@@ -32,6 +32,10 @@ abbrev pub opened : Mark → Mark
 opened Absent = Open
 opened other = other
 
+-- a name neither fires nor stands in the link
+abbrev pub is_free : List Mark → List ℕ → ℕ → Bool
+is_free marks link name = not (is_fires (slice_index_or marks name Unknown) || has link name)
+
 -- a list, changed at the places that pass the test
 abbrev pub Changes : (ℕ → Bool) → (Mark → Mark) → List Mark → List Mark → Type 0
 Changes test change old new = (length new ≡ length old) × ((k : ℕ) (d : Mark) → k < length old → slice_index_or new k d ≡ (if test k then change (slice_index_or old k d) else slice_index_or old k d))
@@ -55,15 +59,12 @@ automaton_mark w v x = if is_listed v x then Listed else if list_any (fired v) (
 unfoldable pub name_mark : Web → Vertex → ℕ → Mark
 name_mark w v name = if fired v name then Fires else if known w v name then Silent else Unknown
 
--- the marks of a list: its automata's, then its names'
+-- the marks of a list: its automata's, and its names'
 abbrev pub automaton_marks : Web → Vertex → List Mark
 automaton_marks w v = map (automaton_mark w v) (places w)
 
 abbrev pub name_marks : Web → Vertex → List Mark
 name_marks w v = map (name_mark w v) (range_with_len 0 w.names)
-
-unfoldable pub marks_of : Web → Vertex → List Mark
-marks_of w v = automaton_marks w v ++ name_marks w v
 
 -- the automata that have a name, by a table
 abbrev pub holders_at : List (List ℕ) → ℕ → List ℕ

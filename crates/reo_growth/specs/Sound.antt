@@ -24,6 +24,7 @@ pub record IsReady (w : Web) (root : ℕ) (v : Vertex) (x : ℕ) : Type 0 where
   pub agree : (link : List ℕ) → agrees w v x link ≡ agrees_as_one w v x link
   -- what fires is known
   pub knows : (name : ℕ) → fired v name ≡ true → known w v name ≡ true
+  pub fit : fits w v ≡ true
 
 -- the lists that automaton x makes of this one with some of its links
 abbrev pub widened : Web → Vertex → ℕ → List (List ℕ) → List Vertex

@@ -8,6 +8,7 @@ mod ground;
 pub mod laws;
 mod marks;
 mod table;
+mod trail;
 mod web;
 
 pub use table::{Table, TableRefusal, table_of};

@@ -1,10 +1,13 @@
 //! What growth marks of a partial firing, so that no list of automata is searched.
-ghost use Rattle.std.specs.Prelude.{◌≡◌, ℕ, length, All, position, slice_index_or, ◌<◌, ◌≤◌, not, ◌&&◌};
-ghost use Rattle.std.specs.List.{list_all, list_any};
+ghost use Rattle.std.specs.Prelude.{◌≡◌, ℕ, [], length, All, position, slice_index_or, nat_eq, ◌<◌, ◌≤◌, IfOk, OnOk};
+ghost use Rattle.std.specs.List.{list_all};
 ghost use Rattle.reo_growth.specs.Lists.{has};
-ghost use Rattle.reo_growth.specs.Marks.{AreBelow, Changes, IsBefore, NoneOpenBefore, allows, is_fires, is_open_mark, met, opened};
+ghost use Rattle.reo_growth.specs.Marks.{AreBelow, Changes, IsBefore, NoneOpenBefore, allows, is_fires, is_free, is_open_mark, met, opened};
+ghost use Rattle.reo_growth.specs.Trail.{Undoes};
 
+use crate::trail::Trail;
 use sqlite_items::Items;
+use std::alloc::AllocError;
 
 /// The mark of an automaton, or of a name.
 #[derive(Clone, Copy)]
@@ -62,64 +65,105 @@ pub fn agrees(marks: &[Mark], names: &[u32], link: &[u32]) -> bool
     true
 }
 
-fn known_from_now(mark: Mark) -> Mark
-    ensures { result ≡ met mark }
+/// Marks a name of a link that enters the list.
+fn fire(names: &mut Trail, name: u32) -> Result<(), AllocError>
+    requires { name < length names.old.marks.items }
+    ensures changed { OnOk result (Changes (nat_eq name) (λ _. Mark.Fires) names.old.marks.items names.new.marks.items) }
+    ensures undo { OnOk result (Undoes names.old names.new) }
 {
-    match mark {
-        Mark::Unknown => Mark::Silent,
-        other => other,
+    match names.marks[name as usize] {
+        Mark::Fires => Ok(()),
+        _ => names.change(name, Mark::Fires),
     }
 }
 
-fn open_from_now(mark: Mark) -> Mark
-    ensures { result ≡ opened mark }
+/// Marks a name of an automaton that enters the list.
+fn meet(names: &mut Trail, name: u32) -> Result<(), AllocError>
+    requires { name < length names.old.marks.items }
+    ensures changed { OnOk result (Changes (nat_eq name) met names.old.marks.items names.new.marks.items) }
+    ensures undo { OnOk result (Undoes names.old names.new) }
 {
-    match mark {
-        Mark::Absent => Mark::Open,
-        other => other,
+    match names.marks[name as usize] {
+        Mark::Unknown => names.change(name, Mark::Silent),
+        _ => Ok(()),
     }
 }
 
-/// Marks the names of an automaton that enters the list.
-pub fn mark_known(marks: &mut [Mark], names: &[u32])
-    requires { AreBelow (length marks.old) names.now }
-    ensures { Changes (has names.now) met marks.old marks.new }
+/// Marks an automaton with a name that fires from now on.
+fn open_one(automata: &mut Trail, x: u32) -> Result<(), AllocError>
+    requires { x < length automata.old.marks.items }
+    ensures changed { OnOk result (Changes (nat_eq x) opened automata.old.marks.items automata.new.marks.items) }
+    ensures undo { OnOk result (Undoes automata.old automata.new) }
 {
-    for name in names {
-        marks[*name as usize] = known_from_now(marks[*name as usize]);
+    match automata.marks[x as usize] {
+        Mark::Absent => automata.change(x, Mark::Open),
+        _ => Ok(()),
     }
 }
 
 /// Marks the names of a link that enters the list.
-pub fn mark_fired(marks: &mut [Mark], link: &[u32])
-    requires { AreBelow (length marks.old) link.now }
-    ensures { Changes (has link.now) (λ _. Mark.Fires) marks.old marks.new }
+pub fn mark_fired(names: &mut Trail, link: &[u32]) -> Result<(), AllocError>
+    requires { AreBelow (length names.old.marks.items) link.now }
+    ensures changed { OnOk result (Changes (has link.now) (λ _. Mark.Fires) names.old.marks.items names.new.marks.items) }
+    ensures undo { OnOk result (Undoes names.old names.new) }
 {
     for name in link {
-        marks[*name as usize] = Mark::Fires;
+        fire(names, *name)?;
     }
+    Ok(())
+}
+
+/// Marks the names of an automaton that enters the list.
+pub fn mark_known(names: &mut Trail, its: &[u32]) -> Result<(), AllocError>
+    requires { AreBelow (length names.old.marks.items) its.now }
+    ensures changed { OnOk result (Changes (has its.now) met names.old.marks.items names.new.marks.items) }
+    ensures undo { OnOk result (Undoes names.old names.new) }
+{
+    for name in its {
+        meet(names, *name)?;
+    }
+    Ok(())
 }
 
 /// Marks the automata of a name that fires from now on, and tells the least of them and a number.
-pub fn mark_open(automata: &mut [Mark], holders: &[u32], mut least: usize) -> usize
-    requires { AreBelow (length automata.old) holders.now }
-    ensures opened { Changes (has holders.now) opened automata.old automata.new }
-    ensures least { IsBefore (has holders.now) least result }
+pub fn mark_open(
+    automata: &mut Trail,
+    holders: &[u32],
+    mut least: usize,
+) -> Result<usize, AllocError>
+    requires { AreBelow (length automata.old.marks.items) holders.now }
+    ensures opened { OnOk result (Changes (has holders.now) opened automata.old.marks.items automata.new.marks.items) }
+    ensures undo { OnOk result (Undoes automata.old automata.new) }
+    ensures least { IfOk result (IsBefore (has holders.now) least) }
 {
     for holder in holders {
-        automata[*holder as usize] = open_from_now(automata[*holder as usize]);
+        open_one(automata, *holder)?;
         least = least.min(*holder as usize);
     }
-    least
+    Ok(least)
 }
 
-/// Whether no FIFO1 has both ends among the names that fire.
-pub fn fits(marks: &[Mark], cells: &[(u32, u32)]) -> bool
-    requires { All (λ cell. (cell.0 < length marks.now) × (cell.1 < length marks.now)) cells.now }
-    ensures { result ≡ list_all (λ cell. not (is_fires (slice_index_or marks.now cell.0 Mark.Unknown) && is_fires (slice_index_or marks.now cell.1 Mark.Unknown))) cells.now }
+/// Whether none of these names fires, nor stands in the link.
+fn are_free(marks: &[Mark], others: &[u32], link: &[u32]) -> bool
+    requires { AreBelow (length marks.now) others.now }
+    ensures { result ≡ list_all (is_free marks.now link.now) others.now }
 {
-    for (a, b) in cells {
-        if fires(marks[*a as usize]) && fires(marks[*b as usize]) {
+    for other in others {
+        if fires(marks[*other as usize]) || link.contains(other) {
+            return false;
+        }
+    }
+    true
+}
+
+/// Whether no FIFO1 has one end in the link, and the other there or among the names that fire.
+pub fn fits(marks: &[Mark], partners: &[Items<u32>], link: &[u32]) -> bool
+    requires below { All (AreBelow (length marks.now)) partners.now }
+    requires named { AreBelow (length partners.now) link.now }
+    ensures { result ≡ list_all (λ name. list_all (is_free marks.now link.now) (slice_index_or partners.now name [])) link.now }
+{
+    for name in link {
+        if !are_free(marks, partners[*name as usize].as_slice(), link) {
             return false;
         }
     }

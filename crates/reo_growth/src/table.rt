@@ -1,10 +1,10 @@
 //! The table of a web: its connected firings.
-ghost use Rattle.std.specs.Prelude.{◌≡◌, ℕ, ◌+◌, ◌*◌, ◌<◌, ◌≤◌, ◌^◌, [], length, map, IfOk, IfErr, OnOk, All};
+ghost use Rattle.std.specs.Prelude.{◌≡◌, ℕ, ◌<◌, ◌^◌, List, [], length, map, slice_index_or, replicate, IfOk, IfErr, OnOk};
 ghost use Rattle.std.specs.List.Sorted.{IsPermutation, IsSorted};
 ghost use Rattle.reo_growth.specs.Lists.{Among};
 ghost use Rattle.reo_growth.specs.Web.{AreFew, IsWeb};
-ghost use Rattle.reo_growth.specs.Marks.{AreBelow, AreHolders, marks_of};
-ghost use Rattle.reo_growth.specs.Ground.{IsGround};
+ghost use Rattle.reo_growth.specs.Marks.{AreBelow, AreHolders};
+ghost use Rattle.reo_growth.specs.Ground.{AreMarksOf, ArePartners, IsGround};
 ghost use Rattle.reo_growth.specs.Search.{AddsHolder, AreSortedRows, IsFresh, Searched, names_in};
 ghost use Rattle.reo_growth.specs.Table.{IsTableOf, Refuses};
 
@@ -12,6 +12,7 @@ use crate::engine::widen;
 use crate::found::{Found, Row};
 use crate::ground::Ground;
 use crate::marks::Mark;
+use crate::trail::{Marking, Trail};
 use crate::web::Web;
 use sqlite_items::Items;
 use std::alloc::{AllocError, Global};
@@ -59,48 +60,78 @@ fn add_holder(table: &mut Vec<Items<u32>>, x: u32, names: &[u32]) -> Result<(), 
     Ok(())
 }
 
+/// As many empty lists.
+fn empty_lists(alloc: Global, count: u32) -> Result<Vec<Items<u32>>, AllocError>
+    ensures long { IfOk result (λ table. length table.items ≡ count) }
+    ensures empty { IfOk result (λ table. (k : ℕ) (d : List ℕ) → k < length table.items → slice_index_or table.items k d ≡ []) }
+{
+    let mut table = Vec::new(alloc);
+    for _ in 0..count {
+        table.push(Items::new(alloc))?;
+    }
+    Ok(table)
+}
+
 /// For each name the automata that have it.
 fn holders_of(alloc: Global, web: &Web) -> Result<Items<Items<u32>>, AllocError>
     requires web { IsWeb web.now }
     requires few { AreFew web.now }
     ensures { IfOk result (AreHolders web.now) }
 {
-    let mut table = Vec::new(alloc);
-    for _ in 0..web.names {
-        table.push(Items::new(alloc))?;
-    }
+    let mut table = empty_lists(alloc, web.names)?;
     for (x, automaton) in web.automata.as_slice().iter().enumerate() {
         add_holder(&mut table, x as u32, automaton.names.as_slice())?;
     }
     Ok(Items::from_vec(table))
 }
 
-/// The marks of the list with no automaton.
-fn no_marks(alloc: Global, web: &Web) -> Result<Vec<Mark>, AllocError>
-    ensures { IfOk result (λ marks. marks.items ≡ marks_of web.now []) }
+/// For each name the other ends of the FIFO1s that end with it.
+fn partners_of(alloc: Global, web: &Web) -> Result<Items<Items<u32>>, AllocError>
+    requires web { IsWeb web.now }
+    ensures { IfOk result (ArePartners web.now) }
 {
-    let count = web.automata.len();
-    let mut marks = vec![in alloc; Mark::Absent; count]?;
-    marks.resize(count + web.names as usize, Mark::Unknown)?;
-    Ok(marks)
+    let mut table = empty_lists(alloc, web.names)?;
+    for (a, b) in web.cells.as_slice() {
+        add_holder(&mut table, *b, &[*a])?;
+        add_holder(&mut table, *a, &[*b])?;
+    }
+    Ok(Items::from_vec(table))
+}
+
+/// As many marks, with room for a change of each, and one change more.
+fn trail_of(alloc: Global, mark: Mark, count: usize) -> Result<Trail, AllocError>
+    requires { count < 2 ^ 32 }
+    ensures { IfOk result (λ trail. trail.marks.items ≡ replicate count mark) }
+{
+    let marks = vec![in alloc; mark; count]?;
+    let log = Vec::with_capacity(alloc, 2 * count)?;
+    Ok(Trail { marks, log })
+}
+
+/// The marks of the list with no automaton.
+fn no_marks(alloc: Global, web: &Web) -> Result<Marking, AllocError>
+    requires few { AreFew web.now }
+    ensures { IfOk result (AreMarksOf web.now []) }
+{
+    let automata = trail_of(alloc, Mark::Absent, web.automata.len())?;
+    let names = trail_of(alloc, Mark::Unknown, web.names as usize)?;
+    Ok(Marking { automata, names })
 }
 
 /// Goes over all vertices, root by root; none where they are too many.
 fn grow_all(
     ground: &Ground,
-    marks: &[Mark],
-    deeper: &mut [Mark],
+    marking: &mut Marking,
     mut found: Found,
 ) -> Result<Option<Found>, AllocError>
     requires ground { IsGround ground.now }
-    requires marks { marks.now ≡ marks_of ground.now.web [] }
-    requires deep { (length ground.now.web.automata + 1) * length marks.now ≤ length deeper.old }
+    requires marks { AreMarksOf ground.now.web [] marking.old }
     requires fresh { IsFresh found }
     ensures { IfOk result (Searched ground.now.web) }
 {
     let count = ground.web.automata.len();
     for root in 0..count {
-        if !widen(ground, root, root, count, marks, deeper, &mut found)? {
+        if !widen(ground, root, root, count, marking, &mut found)? {
             return Ok(None);
         }
     }
@@ -113,16 +144,14 @@ fn search(alloc: Global, ground: &Ground) -> Result<Option<Found>, AllocError>
     requires few { AreFew ground.now.web }
     ensures { IfOk result (Searched ground.now.web) }
 {
-    let marks = no_marks(alloc, &ground.web)?;
-    let levels = ground.web.automata.len() + 1;
-    let mut deeper = vec![in alloc; Mark::Absent; levels * marks.len()]?;
+    let mut marking = no_marks(alloc, &ground.web)?;
     let found = Found {
         alloc,
         room: MOST_VERTICES,
         count: 0,
         rows: Vec::new(alloc),
     };
-    grow_all(ground, &marks, &mut deeper, found)
+    grow_all(ground, &mut marking, found)
 }
 
 /// The names of rows.
@@ -145,8 +174,8 @@ fn sorted(alloc: Global, mut rows: Vec<Row>) -> Result<Items<Items<u32>>, AllocE
     names_of_rows(alloc, rows)
 }
 
-/// The table of a web, where neither its vertices nor its firings are too many. A vertex costs one
-/// copy of the marks of the web, of its automata and of its names, and a test for each of its FIFO1s.
+/// The table of a web, where neither its vertices nor its firings are too many. A vertex costs the marks of the names of
+/// the automaton that enters, of the automata that its link opens, and of those before the next that is open.
 pub fn table_of(alloc: Global, web: Web) -> Result<Table, TableRefusal>
     requires web { IsWeb web }
     requires few { AreFew web }
@@ -154,7 +183,12 @@ pub fn table_of(alloc: Global, web: Web) -> Result<Table, TableRefusal>
     ensures refused { IfErr result (Refuses web) }
 {
     let holders = holders_of(alloc, &web)?;
-    let ground = Ground { web, holders };
+    let partners = partners_of(alloc, &web)?;
+    let ground = Ground {
+        web,
+        holders,
+        partners,
+    };
     let Some(found) = search(alloc, &ground)? else {
         return Err(TableRefusal::TooLarge(MOST_VERTICES + 1));
     };

@@ -1,55 +1,48 @@
-use Rattle.std.proofs.Common.{◌≡◌, ◌+◌, length, take, drop, subst, sym, ap, ◌∙◌, arith}
+use Rattle.std.proofs.Common.{◌≡◌, length, subst, sym, ap, ◌∙◌}
+use Rattle.reo_growth.specs.declared.web.Automaton.{Automaton}
 use Rattle.reo_growth.specs.Lists.{has}
-use Rattle.reo_growth.specs.Marks.{AreBelow, Changes, IsBefore, met, opened, is_held}
-use Rattle.reo_growth.proofs.MarkLemmas.{names_at, own_below, link_below, entered}
-use Rattle.reo_growth.proofs.OpenLemmas.{before_entered}
+use Rattle.reo_growth.specs.Marks.{AreBelow, Changes, met, opened, is_held}
+use Rattle.reo_growth.proofs.MarkLemmas.{names_at, own_below, link_below, names_entered, automata_entered}
+use Rattle.reo_growth.proofs.TrailLemmas.{more_changed}
 use Rattle.reo_growth.proofs.ground.enter.Goals as goal
+
+pub mark_fired-requires : goal.mark_fired-requires
+mark_fired-requires c =
+    subst (λ n. AreBelow n c.args.link.now) (sym c.requires.long.names) (link_below c.args.ground.now.web c.requires.ground.is_web c.args.x c.args.link.now c.requires.its)
 
 pub mark_known-requires : goal.mark_known-requires
 mark_known-requires c =
     let w = c.args.ground.now.web in
-    let names = names_at w c.args.x c.as_slice-all.result.now c.index-all-x.result c.requires.within c.as_slice-all.ensures in
-    let at = ap length c.as_slice-all.ensures in
-    let long : length c.split_at_mut-automata.result.1.now ≡ w.names = omega arith in
-    subst (λ n. AreBelow n c.as_slice.result.now) (sym long) (subst (AreBelow w.names) (names ∙ sym c.as_slice.ensures) (own_below w c.requires.ground.is_web c.args.x))
+    let names = names_at w c.args.x c.as_slice.result.now c.index-as_slice-x.result c.requires.within c.as_slice.ensures ∙ sym (c.as_slice-2.ensures ∙ ap (λ (a : Automaton). a.names) c.index-as_slice-x.is) in
+    let long : length c.mark_fired.new.names.marks.items ≡ w.names = c.in_ok-mark_fired.ensures.changed.0 ∙ c.requires.long.names in
+    subst (λ n. AreBelow n c.as_slice-2.result.now) (sym long) (subst (AreBelow w.names) names (own_below w c.requires.ground.is_web c.args.x))
 
-pub mark_fired-requires : goal.mark_fired-requires
-mark_fired-requires c =
+pub mark_all_open-requires-clause-named : goal.mark_all_open-requires-clause-named
+mark_all_open-requires-clause-named c =
     let w = c.args.ground.now.web in
-    let at = ap length c.as_slice-all.ensures in
-    let long : length c.mark_known.new.marks ≡ w.names = omega arith in
-    subst (λ n. AreBelow n c.args.link.now) (sym long) (link_below w c.requires.ground.is_web c.args.x c.args.link.now c.requires.its)
-
-pub mark_all_open-least-requires-clause-named : goal.mark_all_open-least-requires-clause-named
-mark_all_open-least-requires-clause-named c =
-    let w = c.args.ground.now.web in
-    let long : length c.as_slice-2.result.now ≡ w.names = ap length c.as_slice-2.ensures ∙ c.requires.ground.held.long in
+    let long : length c.as_slice-3.result.now ≡ w.names = ap length c.as_slice-3.ensures ∙ c.requires.ground.held.long in
     subst (λ n. AreBelow n c.args.link.now) (sym long) (link_below w c.requires.ground.is_web c.args.x c.args.link.now c.requires.its)
 
 pub returns-clause-entered : goal.returns-clause-entered
-returns-clause-entered c = λ v is.
+returns-clause-entered c = λ v are.
     let w = c.args.ground.now.web in
     let x = c.args.x in
     let link = c.args.link.now in
-    let all = c.as_slice-all.ensures in
-    let names = names_at w x c.as_slice-all.result.now c.index-all-x.result c.requires.within all in
-    entered w c.requires.ground.is_web c.args.ground.now.holders c.requires.ground.held v x link c.requires.its c.requires.within
-    c.args.marks.now c.split_at_mut-automata.result.0.now c.split_at_mut-automata.result.1.now c.mark_known.new.marks c.mark_fired.new.marks c.mark_all_open-least.new.automata
-    is
-    (c.split_at_mut-automata.ensures.front ∙ ap (λ n. take n c.copy_from_slice.new.self) (ap length all) ∙ ap (take (length w.automata)) c.copy_from_slice.ensures.after)
-    (c.split_at_mut-automata.ensures.back ∙ ap (λ n. drop n c.copy_from_slice.new.self) (ap length all) ∙ ap (drop (length w.automata)) c.copy_from_slice.ensures.after)
-    (subst (λ xs. Changes (has xs) met c.split_at_mut-automata.result.1.now c.mark_known.new.marks) (c.as_slice.ensures ∙ sym names) c.mark_known.ensures)
-    c.mark_fired.ensures
-    (subst (λ xs. Changes (is_held xs link) opened c.split_at_mut-automata.result.0.now c.mark_all_open-least.new.automata) c.as_slice-2.ensures c.mark_all_open-least.ensures.opened)
+    let names = names_at w x c.as_slice.result.now c.index-as_slice-x.result c.requires.within c.as_slice.ensures ∙ sym (c.as_slice-2.ensures ∙ ap (λ (a : Automaton). a.names) c.index-as_slice-x.is) in
+    record {
+      automata = automata_entered w v x link c.requires.ground.is_web c.args.ground.now.holders c.requires.ground.held c.requires.its
+          c.args.marking.now.automata.marks.items c.mark_all_open.new.automata.marks.items c.change.new.self.marks.items are.automata
+          (subst (λ xs. Changes (is_held xs link) opened c.args.marking.now.automata.marks.items c.mark_all_open.new.automata.marks.items) c.as_slice-3.ensures c.in_ok-least.ensures.opened)
+          c.in_ok-change.ensures.changed;
+      names = names_entered w v x link c.args.marking.now.names.marks.items c.mark_fired.new.names.marks.items c.mark_known.new.names.marks.items are.names
+          c.in_ok-mark_fired.ensures.changed
+          (subst (λ xs. Changes (has xs) met c.mark_fired.new.names.marks.items c.mark_known.new.names.marks.items) (sym names) c.in_ok-mark_known.ensures.changed);
+    }
 
-pub returns-clause-before : goal.returns-clause-before
-returns-clause-before c =
-    let w = c.args.ground.now.web in
-    let all = c.as_slice-all.ensures in
-    let copied = c.copy_from_slice.ensures.after in
-    let front = c.split_at_mut-automata.ensures.front ∙ ap (λ n. take n c.copy_from_slice.new.self) (ap length all) ∙ ap (take (length w.automata)) copied in
-    before_entered (length w.automata) c.args.x c.mark_all_open-least.result c.args.marks.now c.split_at_mut-automata.result.0.now c.mark_all_open-least.new.automata c.mark_fired.new.marks
-    (is_held c.args.ground.now.holders c.args.link.now) c.requires.within (c.split_at_mut-automata.ensures.front_len ∙ ap length all) front c.requires.before
-    (subst (λ xs. Changes (is_held xs c.args.link.now) opened c.split_at_mut-automata.result.0.now c.mark_all_open-least.new.automata) c.as_slice-2.ensures c.mark_all_open-least.ensures.opened)
-    (subst (λ xs. IsBefore (is_held xs c.args.link.now) (c.args.x + 1) c.mark_all_open-least.result) c.as_slice-2.ensures c.mark_all_open-least.ensures.least)
-    (omega (arith, c.requires.long))
+pub returns-clause-automata : goal.returns-clause-automata
+returns-clause-automata c =
+    more_changed c.args.marking.now.automata c.mark_all_open.new.automata c.change.new.self c.in_ok-least.ensures.undo c.in_ok-change.ensures.undo
+
+pub returns-clause-names : goal.returns-clause-names
+returns-clause-names c =
+    more_changed c.args.marking.now.names c.mark_fired.new.names c.mark_known.new.names c.in_ok-mark_fired.ensures.undo c.in_ok-mark_known.ensures.undo

@@ -1,15 +1,9 @@
-use Rattle.std.proofs.Common.{◌≡◌, ℕ, ◌<◌, [], length, get_or, ◌&&◌}
-use Rattle.std.specs.Prelude.{nat_lt, List}
+use Rattle.std.proofs.Common.{◌≡◌, ℕ, ◌<◌, length, ◌&&◌}
+use Rattle.std.specs.Prelude.{nat_lt}
 use Rattle.reo_growth.specs.Lists.{has}
 use Rattle.reo_growth.specs.Web.{names_of}
 use Rattle.reo_growth.specs.Marks.{holders_at}
 use Rattle.reo_growth.proofs.table.holders_of.Given as goal
-
-abbrev pub invariant-loop : goal.invariant-loop
-invariant-loop l = record {
-  long : length l.table.items ≡ l.counter;
-  empty : (k : ℕ) (d : List ℕ) → k < length l.table.items → get_or l.table.items k d ≡ [];
-}
 
 abbrev pub invariant-loop-x : goal.invariant-loop-x
 invariant-loop-x l = record {
