@@ -1,10 +1,11 @@
 -- Before which automaton none is open.
-use Rattle.std.proofs.Common.{◌≡◌, ℕ, ◌+◌, ◌-◌, ◌<◌, ◌≤◌, ◌⊎◌, inl, inr, ⊎_elim, List, [], length, drop, get_or, Bool, true, false, not, cond, ◌||◌, Some, None, sym, ◌∙◌, ap, subst, arith}
+use Rattle.std.proofs.Common.{◌≡◌, ℕ, ◌+◌, ◌-◌, ◌<◌, ◌≤◌, ◌⊎◌, inl, inr, ⊎_elim, List, [], length, take, drop, get_or, Bool, true, false, not, cond, ◌||◌, Some, None, sym, ◌∙◌, ap, subst, arith}
 use Rattle.std.specs.Prelude.{nat_eq, nat_lt, position}
 use Rattle.std.specs.Option.{option_map}
-use Rattle.std.specs.List.{position_or_len}
+use Rattle.std.specs.List.{list_all, position_or_len}
+use Rattle.reo_growth.proofs.ListLemmas.{all_gives, among_at}
 use Rattle.std.proofs.lemmas.Bool.{eq-eqb, ne_eqb, not-true, not-false, or_cases, cases_lt, cases_eq, lt-ltb, le-ltb, false_from_ne_true}
-use Rattle.std.proofs.lemmas.List.{get_or_default, length-drop, get_or-drop, length-replicate, get_or-replicate}
+use Rattle.std.proofs.lemmas.List.{get_or_default, length-take, length-drop, get_or-take, get_or-drop, length-replicate, get_or-replicate}
 use Rattle.std.proofs.lemmas.List.Sums.{prefix_len_passes, prefix_len_stops, prefix_len-le-length, position_or_len_is}
 use Rattle.reo_growth.specs.declared.marks.Mark.{Mark}
 use Rattle.reo_growth.specs.declared.marks.Mark.TheVariants.{Absent, Listed}
@@ -87,3 +88,15 @@ none_open w marks x is k d less here =
 -- none before the first is open
 pub first_before : (marks : List Mark) (x : ℕ) → ((k : ℕ) → k < x → is_open_mark (get_or marks k Absent) ≡ false) → NoneOpenBefore x marks
 first_before marks x before k d less here = ap is_open_mark (get_or_default marks k d Absent here) ∙ before k less
+
+-- none before a place is open, where none is before another, nor from there on
+pub closed_further : (marks slice : List Mark) (from size n : ℕ) → slice ≡ take n (drop from marks) → n ≡ size → from + size ≤ length marks → list_all (λ mark. not (is_open_mark mark)) slice ≡ true
+    → NoneOpenBefore from marks → NoneOpenBefore (from + size) marks
+closed_further marks slice from size n is at within all before k d less here = ⊎_elim
+    (λ early. before k d early here)
+    (λ late.
+    let read : get_or slice (k - from) d ≡ get_or marks k d =
+    ap (λ xs. get_or xs (k - from) d) is ∙ get_or-take n (drop from marks) (k - from) d (omega arith) ∙ get_or-drop from marks (k - from) d ∙ ap (λ j. get_or marks j d) (let e : from + (k - from) ≡ k = omega arith in e) in
+    let long : k - from < length slice = omega (arith, ap length is, length-take n (drop from marks), length-drop from marks) in
+    sym (ap is_open_mark read) ∙ not-true (is_open_mark (get_or slice (k - from) d)) (all_gives (λ mark. not (is_open_mark mark)) slice (get_or slice (k - from) d) all (among_at slice (k - from) d long)))
+    (cases_lt k from)

@@ -1,5 +1,5 @@
 //! What growth marks of a partial firing, so that no list of automata is searched.
-ghost use Rattle.std.specs.Prelude.{◌≡◌, ℕ, [], length, All, position, slice_index_or, nat_eq, ◌<◌, ◌≤◌, IfOk, OnOk};
+ghost use Rattle.std.specs.Prelude.{◌≡◌, ℕ, [], length, All, position, slice_index_or, nat_eq, not, ◌<◌, ◌≤◌, IfOk, OnOk};
 ghost use Rattle.std.specs.List.{list_all};
 ghost use Rattle.reo_growth.specs.Lists.{has};
 ghost use Rattle.reo_growth.specs.Marks.{AreBelow, Changes, IsBefore, NoneOpenBefore, allows, is_fires, is_free, is_open_mark, met, opened};
@@ -37,12 +37,49 @@ fn first_of(automata: &[Mark]) -> Option<usize>
     automata.iter().position(|mark| matches!(mark, Mark::Open))
 }
 
+/// How many marks are looked at together.
+const STRIDE: usize = 64;
+
+fn is_open(mark: Mark) -> bool
+    ensures { result ≡ is_open_mark mark }
+{
+    matches!(mark, Mark::Open)
+}
+
+/// Whether no automaton is open. All marks are looked at, many at once.
+fn none_open(marks: &[Mark]) -> bool
+    ensures { result ≡ list_all (λ mark. not (is_open_mark mark)) marks.now }
+{
+    let mut none = true;
+    for mark in marks {
+        none &= !is_open(*mark);
+    }
+    none
+}
+
+/// A later automaton before which none is open, at most the least that is.
+fn skip_closed(automata: &[Mark], mut from: usize) -> usize
+    requires within { from ≤ length automata.now }
+    requires before { NoneOpenBefore from automata.now }
+    ensures within { result ≤ length automata.now }
+    ensures before { NoneOpenBefore result automata.now }
+{
+    while automata.len() - from >= STRIDE {
+        if !none_open(&automata[from..from + STRIDE]) {
+            return from;
+        }
+        from += STRIDE;
+    }
+    from
+}
+
 /// The least automaton that is open, where none before this one is.
 pub fn first_open(automata: &[Mark], from: usize) -> Option<usize>
     requires within { from ≤ length automata.now }
     requires before { NoneOpenBefore from automata.now }
     ensures { result ≡ position is_open_mark automata.now }
 {
+    let from = skip_closed(automata, from);
     let later = first_of(&automata[from..])?;
     Some(from + later)
 }
