@@ -13,25 +13,7 @@ use Rattle.reo_value.proofs.LexiconLemmas.{place_of-push, place_of-append}
 use Rattle.reo_sentence.specs.Numbered.{number_in}
 use Rattle.reo_sentence.specs.Said.{ChannelSaid}
 use Rattle.reo_document.specs.Document.{DocumentData}
-use Rattle.reo_document.specs.Placed.{port_from, operation_count, with_said}
-
--- no port of the node is among the lines so far, which have so many ports
-pub record SoFar (lines : List Line) (node at number : ℕ) : Type 0 where
-  pub rest : port_from 0 lines node ≡ port_from number (drop at lines) node
-  pub few : number ≤ at
-
-pub so_far-start : (lines : List Line) (node : ℕ) → SoFar lines node 0 0
-so_far-start lines node = record { rest = refl; few = omega arith }
-
-next : (lines : List Line) (node at number : ℕ) (d : Line) → at < length lines → port_from number (drop at lines) node ≡ port_from number (get_or lines at d ∷ drop (at + 1) lines) node
-next lines node at number d here = rw (add-one, drop-cons lines at d) refl
-
-pub so_far-channel : (lines : List Line) (node at number : ℕ) (channel : Channel) → SoFar lines node at number → at < length lines → get_or lines at (line.Channel channel) ≡ line.Channel channel
-    → SoFar lines node (at + 1) number
-so_far-channel lines node at number channel so_far here is = record {
-  rest = so_far.rest ∙ next lines node at number (line.Channel channel) here ∙ ap (λ l. port_from number (l ∷ drop (at + 1) lines) node) is;
-  few = omega (arith, so_far.few);
-}
+use Rattle.reo_document.specs.Placed.{operation_count, with_said}
 
 -- the scripts so far leave this room for operations
 pub record Counted (scripts : List (List Op)) (at room : ℕ) : Type 0 where

@@ -5,6 +5,7 @@ pub mod LeadLemmas
 pub mod SpellLemmas
 pub mod LineLemmas
 pub mod OwnerLemmas
+pub mod PortLemmas
 pub mod BuilderLemmas
 pub mod ReadLemmas
 pub mod RoomLemmas

@@ -11,7 +11,7 @@ use Rattle.reo_value.specs.declared.op.Op.{Op}
 use Rattle.reo_document.specs.Placed.{is_taken, with_operation}
 use Rattle.reo_document.proofs.ListLemmas.{slice_get-set_same, slice_get-set_other}
 use Rattle.reo_value.specs.declared.value.Value.{Value}
-use Rattle.reo_document.specs.Builder.{operation_at, uses, owner_of, owner_at, is_before, Claims}
+use Rattle.reo_document.specs.Builder.{operation_at, uses, owner_of, noted_at, is_before, Claims}
 
 -- comparisons that say the same
 same_test : (a b c d : ℕ) → (a < b → c < d) → (c < d → a < b) → nat_lt a b ≡ nat_lt c d
@@ -44,8 +44,8 @@ before-take (suc n) (script ∷ scripts) port = by (uses port script) (owner_of 
     by true owner is = lt-ltb 0 (suc n) (omega arith)
     by false owner is = before_next n owner ∙ is
 
-pub taken_by_owner : (scripts : List (List Op)) (owners : List (Option ℕ)) (port : ℕ) → ((p : ℕ) → owner_at owners p ≡ owner_of scripts p)
-    → is_before (length scripts - 1) (owner_at owners port) ≡ is_taken scripts port
+pub taken_by_owner : (scripts : List (List Op)) (owners : List (Option ℕ)) (port : ℕ) → ((p : ℕ) → noted_at owners p ≡ owner_of scripts p)
+    → is_before (length scripts - 1) (noted_at owners port) ≡ is_taken scripts port
 taken_by_owner scripts owners port knows = ap (is_before (length scripts - 1)) (knows port) ∙ before-take (length scripts - 1) scripts port
 
 -- a script without operations uses no port
@@ -83,7 +83,7 @@ owner_of-set (script ∷ scripts) (suc last) o port is =
     by false false owner = refl
 
 pub owners_claimed : (scripts later : List (List Op)) (owners after : List (Option ℕ)) (o : Op) (port last : ℕ) → port_of o ≡ port → last + 1 ≡ length scripts → last ≡ length scripts - 1
-    → later ≡ with_operation scripts o → Claims owners after port last → ((p : ℕ) → owner_at owners p ≡ owner_of scripts p) → (p : ℕ) → owner_at after p ≡ owner_of later p
+    → later ≡ with_operation scripts o → Claims owners after port last → ((p : ℕ) → noted_at owners p ≡ owner_of scripts p) → (p : ℕ) → noted_at after p ≡ owner_of later p
 owners_claimed scripts later owners after o port last at is place grown claims knows p =
     claims p
     ∙ ap (λ owner. if port == p then option_or owner (Some last) else owner) (knows p)
@@ -93,38 +93,38 @@ owners_claimed scripts later owners after o port last at is place grown claims k
     ∙ ap (λ ss. owner_of ss p) (sym grown)
 
 -- a place without an owner at the end changes none
-pub owner_at-push : (owners : List (Option ℕ)) (port : ℕ) → owner_at (owners ++ None ∷ []) port ≡ owner_at owners port
-owner_at-push [] zero = refl
-owner_at-push [] (suc port) = refl
-owner_at-push (owner ∷ owners) zero = refl
-owner_at-push (owner ∷ owners) (suc port) = owner_at-push owners port
+pub noted_at-push : {A : Type 0} (owners : List (Option A)) (port : ℕ) → noted_at (owners ++ None ∷ []) port ≡ noted_at owners port
+noted_at-push [] zero = refl
+noted_at-push [] (suc port) = refl
+noted_at-push (owner ∷ owners) zero = refl
+noted_at-push (owner ∷ owners) (suc port) = noted_at-push owners port
 
 -- an owner that is noted
-owner_at-set : (owners : List (Option ℕ)) (port p : ℕ) (owner : Option ℕ) → port < length owners → owner_at (set owners port owner) p ≡ (if port == p then owner else owner_at owners p)
-owner_at-set owners port p owner within = by (port == p) refl
+noted_at-set : {A : Type 0} (owners : List (Option A)) (port p : ℕ) (owner : Option A) → port < length owners → noted_at (set owners port owner) p ≡ (if port == p then owner else noted_at owners p)
+noted_at-set owners port p owner within = by (port == p) refl
   where
-    by : (here : Bool) → (port == p) ≡ here → owner_at (set owners port owner) p ≡ (if here then owner else owner_at owners p)
+    by : (here : Bool) → (port == p) ≡ here → noted_at (set owners port owner) p ≡ (if here then owner else noted_at owners p)
     by true here = ap (λ o. unwrap_or o None) (ap (slice_get (set owners port owner)) (sym (eqb-true port p here)) ∙ slice_get-set_same owners port owner within)
     by false other = ap (λ o. unwrap_or o None) (slice_get-set_other owners port p owner (λ same. false≢true (sym other ∙ eq-eqb port p (sym same))))
 
-pub claimed : (first owners after : List (Option ℕ)) (port owner : ℕ) (x : Option ℕ) → ((p : ℕ) → owner_at owners p ≡ owner_at first p) → port < length owners → x ≡ get_or owners port x
+pub claimed : {A : Type 0} (first owners after : List (Option A)) (port : ℕ) (owner : A) (x : Option A) → ((p : ℕ) → noted_at owners p ≡ noted_at first p) → port < length owners → x ≡ get_or owners port x
     → after ≡ set owners port (option_or x (Some owner)) → Claims first after port owner
 claimed first owners after port owner x same within is set_it p =
-    ap (λ os. owner_at os p) set_it ∙ owner_at-set owners port p (option_or x (Some owner)) within ∙ by (port == p) refl
+    ap (λ os. noted_at os p) set_it ∙ noted_at-set owners port p (option_or x (Some owner)) within ∙ by (port == p) refl
   where
-    by : (here : Bool) → (port == p) ≡ here → (if here then option_or x (Some owner) else owner_at owners p) ≡ (if here then option_or (owner_at first p) (Some owner) else owner_at first p)
+    by : (here : Bool) → (port == p) ≡ here → (if here then option_or x (Some owner) else noted_at owners p) ≡ (if here then option_or (noted_at first p) (Some owner) else noted_at first p)
     by false other = same p
     by true here = ap (λ o. option_or o (Some owner)) (is ∙ at_port ∙ same p)
       where
-        at_port : get_or owners port x ≡ owner_at owners p
-        at_port = sym (ap (λ o. unwrap_or o None) (slice_get-get_or owners port x within)) ∙ ap (owner_at owners) (eqb-true port p here)
+        at_port : get_or owners port x ≡ noted_at owners p
+        at_port = sym (ap (λ o. unwrap_or o None) (slice_get-get_or owners port x within)) ∙ ap (noted_at owners) (eqb-true port p here)
 
-nobody : (p : ℕ) → owner_at [] p ≡ owner_of [] p
+nobody : (p : ℕ) → noted_at [] p ≡ owner_of [] p
 unfolding owner_of
 nobody p = refl
 
-pub owners_new : (owners : List (Option ℕ)) (scripts : List (List Op)) → owners ≡ [] → scripts ≡ [] → (port : ℕ) → owner_at owners port ≡ owner_of scripts port
-owners_new owners scripts none also port = ap (λ os. owner_at os port) none ∙ nobody port ∙ ap (λ ss. owner_of ss port) (sym also)
+pub owners_new : (owners : List (Option ℕ)) (scripts : List (List Op)) → owners ≡ [] → scripts ≡ [] → (port : ℕ) → noted_at owners port ≡ owner_of scripts port
+owners_new owners scripts none also port = ap (λ os. noted_at os port) none ∙ nobody port ∙ ap (λ ss. owner_of ss port) (sym also)
 
 pub port_of-operation_at : (port : ℕ) (value : Option Value) → port_of (operation_at port value) ≡ port
 port_of-operation_at port None = refl

@@ -7,7 +7,11 @@ use Rattle.reo_value.specs.declared.op.Op.{Op}
 use Rattle.reo_value.specs.declared.op.Op.TheVariants as op
 use Rattle.reo_value.specs.declared.value.Value.{Value}
 use Rattle.reo_document.specs.declared.builder.Builder.{Builder}
+use Rattle.reo_value.specs.declared.op.Way.{Way}
+use Rattle.reo_document.specs.declared.line.Line.{Line}
+use Rattle.reo_document.specs.declared.line.Line.TheVariants as line
 use Rattle.reo_document.specs.Document.{DocumentData}
+use Rattle.reo_document.specs.Placed.{port_from}
 
 abbrev pub data_of : Builder → DocumentData
 data_of b = record { lines = b.lines.items; nodes = b.nodes; texts = b.texts; people = b.people; scripts = b.scripts.items }
@@ -33,18 +37,34 @@ unfoldable pub owner_of : List (List Op) → ℕ → Option ℕ
 owner_of [] port = None
 owner_of (script ∷ scripts) port = if uses port script then Some 0 else option_map suc (owner_of scripts port)
 
-abbrev pub owner_at : List (Option ℕ) → ℕ → Option ℕ
-owner_at owners port = unwrap_or (slice_get owners port) None
+-- what is noted for a number, where something is
+abbrev pub noted_at : {A : Type 0} → List (Option A) → ℕ → Option A
+noted_at notes number = unwrap_or (slice_get notes number) None
 
 -- it is one of the first so many
 abbrev pub is_before : ℕ → Option ℕ → Bool
 is_before count None = false
 is_before count (Some owner) = nat_lt owner count
 
--- the owner of a port is noted, where there was none
-abbrev pub Claims : List (Option ℕ) → List (Option ℕ) → ℕ → ℕ → Type 0
-Claims old new port owner = (p : ℕ) → owner_at new p ≡ (if port == p then option_or (owner_at old p) (Some owner) else owner_at old p)
+-- this is noted for a number, where nothing was
+abbrev pub Claims : {A : Type 0} → List (Option A) → List (Option A) → ℕ → A → Type 0
+Claims old new number item = (n : ℕ) → noted_at new n ≡ (if number == n then option_or (noted_at old n) (Some item) else noted_at old n)
 
 -- the builder knows whose each port is
 abbrev pub KnowsOwners : Builder → Type 0
-KnowsOwners b = (port : ℕ) → owner_at b.owners.items port ≡ owner_of b.scripts.items port
+KnowsOwners b = (port : ℕ) → noted_at b.owners.items port ≡ owner_of b.scripts.items port
+
+-- how many ports the lines have
+abbrev pub port_count : List Line → ℕ
+port_count [] = 0
+port_count (line.Port way node ∷ lines) = port_count lines + 1
+port_count (line.Channel channel ∷ lines) = port_count lines
+
+-- these are the first ports of the nodes, and so many ports there are
+pub record ArePorts (ports : List (Option (ℕ × Way))) (count : ℕ) (lines : List Line) : Type 0 where
+  pub first : (node : ℕ) → noted_at ports node ≡ port_from 0 lines node
+  pub counted : count ≡ port_count lines
+
+-- the builder knows the first port of each node
+abbrev pub KnowsPorts : Builder → Type 0
+KnowsPorts b = ArePorts b.ports.items b.port_count b.lines.items

@@ -5,7 +5,7 @@ ghost use Rattle.reo_sentence.specs.Numbered.{number_in};
 ghost use Rattle.reo_sentence.specs.Said.{name_at, IsNameIn, AreNamesIn, said, PortSaid, ChannelSaid, ComponentSaid};
 ghost use Rattle.reo_document.specs.Placed.{port_from, port_named, is_taken, operation_count, misplaced_at, misplaced, port_number, with_operation, with_said};
 ghost use Rattle.reo_document.specs.Spells.{empty};
-ghost use Rattle.reo_document.specs.Builder.{data_of, operation_at, owner_at, is_before, Claims, KnowsOwners};
+ghost use Rattle.reo_document.specs.Builder.{data_of, operation_at, noted_at, is_before, Claims, KnowsOwners, KnowsPorts};
 
 use crate::line::Line;
 use crate::refusal::Misplaced;
@@ -29,12 +29,16 @@ pub(crate) struct Builder {
     pub(crate) scripts: Vec<Items<Op>>,
     // The first component that uses each port, where one does.
     pub(crate) owners: Vec<Option<usize>>,
+    // The first port of each node, where it has one.
+    pub(crate) ports: Vec<Option<(u32, Way)>>,
+    pub(crate) port_count: u32,
 }
 
 impl Builder {
     pub(crate) fn new(alloc: Global) -> Builder
         ensures empty { data_of result ≡ empty }
         ensures owners { KnowsOwners result }
+        ensures ports { KnowsPorts result }
     {
         Builder {
             lines: Vec::new(alloc),
@@ -43,13 +47,15 @@ impl Builder {
             people: Lexicon::new(alloc),
             scripts: Vec::new(alloc),
             owners: Vec::new(alloc),
+            ports: Vec::new(alloc),
+            port_count: 0,
         }
     }
 
     /// Why the line that says this may not stand here, if so.
     pub(crate) fn misplaced(&self, line: &[u8], sentence: &Sentence) -> Option<Misplaced>
-        requires room { length self.now.lines.items < 2 ^ 31 }
         requires owners { KnowsOwners self.now }
+        requires ports { KnowsPorts self.now }
         requires names { AreNamesIn line.now sentence.now }
         ensures { result ≡ misplaced (data_of self.now) (said line.now sentence.now) }
     {
@@ -76,8 +82,8 @@ impl Builder {
     }
 
     fn misplaced_operation(&self, line: &[u8], node: Name, way: Way) -> Option<Misplaced>
-        requires room { length self.now.lines.items < 2 ^ 31 }
         requires owners { KnowsOwners self.now }
+        requires ports { KnowsPorts self.now }
         requires name { IsNameIn line.now node }
         ensures { result ≡ misplaced_at (data_of self.now) way (port_named (data_of self.now) (name_at line.now node)) }
     {
@@ -86,11 +92,22 @@ impl Builder {
 
     // The first port at the node of this name.
     fn port(&self, name: &str) -> Option<(u32, Way)>
-        requires { length self.now.lines.items < 2 ^ 31 }
+        requires { KnowsPorts self.now }
         ensures { result ≡ port_named (data_of self.now) name.now }
     {
         let node = self.nodes.find(name)?;
-        port_at(self.lines.as_slice(), node)
+        self.port_at(node)
+    }
+
+    // The first port at a node.
+    fn port_at(&self, node: u32) -> Option<(u32, Way)>
+        requires { KnowsPorts self.now }
+        ensures { result ≡ port_from 0 self.now.lines.items node }
+    {
+        match self.ports.get(node as usize) {
+            Some(port) => *port,
+            None => None,
+        }
     }
 
     fn misplaced_at(&self, port: Option<(u32, Way)>, way: Way) -> Option<Misplaced>
@@ -121,7 +138,7 @@ impl Builder {
     }
 
     fn owner(&self, port: u32) -> Option<usize>
-        ensures { result ≡ owner_at self.now.owners.items port }
+        ensures { result ≡ noted_at self.now.owners.items port }
     {
         match self.owners.get(port as usize) {
             Some(owner) => *owner,
@@ -140,9 +157,11 @@ impl Builder {
         requires nodes { length self.old.nodes + 2 ≤ 16777216 }
         requires people { length self.old.people < 16777216 }
         requires owners { KnowsOwners self.old }
+        requires ports { KnowsPorts self.old }
         requires names { AreNamesIn line.now sentence }
         ensures exact { OnOk result (data_of self.new ≡ with_said (data_of self.old) (said line.now sentence)) }
         ensures owners { OnOk result (KnowsOwners self.new) }
+        ensures ports { OnOk result (KnowsPorts self.new) }
         ensures lines { OnOk result (length self.new.lines.items ≤ length self.old.lines.items + 1) }
     {
         match sentence {
@@ -164,14 +183,19 @@ impl Builder {
 
     fn add_port(&mut self, alloc: Global, node: &str, way: Way) -> Result<(), AllocError>
         requires room { length self.old.nodes < 16777216 }
+        requires lines { length self.old.lines.items < 2 ^ 31 }
         requires short { length node.now ≤ 64 }
         requires owners { KnowsOwners self.old }
+        requires ports { KnowsPorts self.old }
         ensures exact { OnOk result (data_of self.new ≡ with_said (data_of self.old) (PortSaid way node.now)) }
         ensures owners { OnOk result (KnowsOwners self.new) }
+        ensures ports { OnOk result (KnowsPorts self.new) }
         ensures lines { OnOk result (length self.new.lines.items ≤ length self.old.lines.items + 1) }
     {
         let node = number(alloc, &mut self.nodes, node)?;
         self.lines.push(Line::Port(way, node))?;
+        claim_port(&mut self.ports, node, (self.port_count, way))?;
+        self.port_count += 1;
         Ok(())
     }
 
@@ -180,8 +204,10 @@ impl Builder {
         requires short { length a.now ≤ 64 }
         requires also { length b.now ≤ 64 }
         requires owners { KnowsOwners self.old }
+        requires ports { KnowsPorts self.old }
         ensures exact { OnOk result (data_of self.new ≡ with_said (data_of self.old) (ChannelSaid kind a.now b.now)) }
         ensures owners { OnOk result (KnowsOwners self.new) }
+        ensures ports { OnOk result (KnowsPorts self.new) }
         ensures lines { OnOk result (length self.new.lines.items ≤ length self.old.lines.items + 1) }
     {
         let first = number(alloc, &mut self.nodes, a)?;
@@ -198,8 +224,10 @@ impl Builder {
         requires room { length self.old.people < 16777216 }
         requires short { length name.now ≤ 64 }
         requires owners { KnowsOwners self.old }
+        requires ports { KnowsPorts self.old }
         ensures exact { OnOk result (data_of self.new ≡ with_said (data_of self.old) (ComponentSaid name.now)) }
         ensures owners { OnOk result (KnowsOwners self.new) }
+        ensures ports { OnOk result (KnowsPorts self.new) }
         ensures lines { OnOk result (self.new.lines.items ≡ self.old.lines.items) }
     {
         number(alloc, &mut self.people, name)?;
@@ -210,8 +238,10 @@ impl Builder {
     // Adds an operation to the last script.
     fn add_operation(&mut self, port: u32, value: Option<Value>) -> Result<(), AllocError>
         requires owners { KnowsOwners self.old }
+        requires ports { KnowsPorts self.old }
         ensures exact { OnOk result (data_of self.new ≡ record (data_of self.old) { scripts = with_operation self.old.scripts.items (operation_at port value) }) }
         ensures owners { OnOk result (KnowsOwners self.new) }
+        ensures ports { OnOk result (KnowsPorts self.new) }
         ensures lines { OnOk result (self.new.lines.items ≡ self.old.lines.items) }
     {
         if self.scripts.is_empty() {
@@ -224,7 +254,7 @@ impl Builder {
 
     // The number of the first port at the node of this name, or 0 where there is none.
     fn port_number(&self, name: &str) -> u32
-        requires { length self.now.lines.items < 2 ^ 31 }
+        requires { KnowsPorts self.now }
         ensures { result ≡ port_number (data_of self.now) name.now }
     {
         match self.port(name) {
@@ -270,26 +300,6 @@ fn name_in(line: &[u8], name: Name) -> &str
     text
 }
 
-// The first port at a node: its number, and its way.
-fn port_at(lines: &[Line], node: u32) -> Option<(u32, Way)>
-    requires { length lines.now < 2 ^ 31 }
-    ensures { result ≡ port_from 0 lines.now node }
-{
-    let mut number = 0;
-    for line in lines {
-        match line {
-            Line::Port(way, at) => {
-                if *at == node {
-                    return Some((number, *way));
-                }
-                number += 1;
-            }
-            Line::Channel(_) => {}
-        }
-    }
-    None
-}
-
 // Adds an operation to the last script.
 fn push_last(
     scripts: &mut Vec<Items<Op>>,
@@ -323,6 +333,22 @@ fn claim(owners: &mut Vec<Option<usize>>, port: u32, owner: usize) -> Result<(),
         owners.push(None)?;
     }
     owners[port] = owners[port].or(Some(owner));
+    Ok(())
+}
+
+// Notes the first port of a node.
+fn claim_port(
+    ports: &mut Vec<Option<(u32, Way)>>,
+    node: u32,
+    port: (u32, Way),
+) -> Result<(), AllocError>
+    ensures { OnOk result (Claims ports.old.items ports.new.items node port) }
+{
+    let node = node as usize;
+    'more: while ports.len() <= node {
+        ports.push(None)?;
+    }
+    ports[node] = ports[node].or(Some(port));
     Ok(())
 }
 

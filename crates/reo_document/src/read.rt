@@ -4,7 +4,7 @@ ghost use Rattle.reo_token.specs.Cut.{cut, IsWithin};
 ghost use Rattle.reo_token.specs.declared.token.End.TheVariants.{Over as IsOver};
 ghost use Rattle.reo_sentence.specs.LineReading.{place_of};
 ghost use Rattle.reo_document.specs.Spells.{place_in, refusal_at, Leads, LinesLead, Goes, Spells};
-ghost use Rattle.reo_document.specs.Builder.{data_of, HasRoom, KnowsOwners};
+ghost use Rattle.reo_document.specs.Builder.{data_of, HasRoom, KnowsOwners, KnowsPorts};
 ghost use Rattle.reo_document.specs.Reading.{StopsWith, StopsIn, IsRefusalOf};
 ghost use Rattle.reo_document.specs.Lines.{lines_of};
 
@@ -28,8 +28,10 @@ impl Builder {
         requires utf8 { IsUtf8 line.now }
         requires room { HasRoom (data_of self.old) (length line.now) }
         requires owners { KnowsOwners self.old }
+        requires ports { KnowsPorts self.old }
         ensures goes { OnOk result (Leads (data_of self.old) number line.now (Goes (data_of self.new))) }
         ensures owners { OnOk result (KnowsOwners self.new) }
+        ensures ports { OnOk result (KnowsPorts self.new) }
         ensures stops { IfErr result (StopsWith (data_of self.old) number line.now) }
         ensures lines { OnOk result (length self.new.lines.items ≤ length self.old.lines.items + 1) }
         ensures room { OnOk result ((more : ℕ) → HasRoom (data_of self.old) (length line.now + 1 + more) → HasRoom (data_of self.new) more) }
@@ -62,11 +64,13 @@ impl Builder {
         requires utf8 { IsUtf8 line.now }
         requires room { HasRoom (data_of self.old) (length line.now) }
         requires owners { KnowsOwners self.old }
+        requires ports { KnowsPorts self.old }
         requires cut { (tokens.now, IsOver) ≡ cut 512 0 line.now }
         requires within { All (IsWithin (length line.now)) tokens.now }
         requires some { tokens.now ≢ [] }
         ensures goes { OnOk result (Leads (data_of self.old) number line.now (Goes (data_of self.new))) }
         ensures owners { OnOk result (KnowsOwners self.new) }
+        ensures ports { OnOk result (KnowsPorts self.new) }
         ensures stops { IfErr result (StopsWith (data_of self.old) number line.now) }
         ensures lines { OnOk result (length self.new.lines.items ≤ length self.old.lines.items + 1) }
         ensures room { OnOk result ((more : ℕ) → HasRoom (data_of self.old) (length line.now + 1 + more) → HasRoom (data_of self.new) more) }
@@ -132,6 +136,7 @@ fn read_lines(alloc: Global, builder: &mut Builder, bytes: &[u8]) -> Result<(), 
     requires none { length builder.old.lines.items ≡ 0 }
     requires room { HasRoom (data_of builder.old) (length bytes.now) }
     requires owners { KnowsOwners builder.old }
+    requires ports { KnowsPorts builder.old }
     ensures goes { OnOk result (LinesLead (data_of builder.old) 1 (lines_of bytes.now) (Goes (data_of builder.new))) }
     ensures stops { IfErr result (StopsIn (data_of builder.old) 1 (lines_of bytes.now)) }
 {

@@ -1,5 +1,5 @@
 -- The names of a line.
-use Rattle.std.proofs.Common.{◌≡◌, ℕ, ◌≤◌, List, [], ◌∷◌, length, map, All, IsUtf8, refl, sym, ap, subst, ◌∙◌}
+use Rattle.std.proofs.Common.{◌≡◌, ℕ, ◌≤◌, List, [], ◌∷◌, length, All, IsUtf8, refl, sym, ap, subst, ◌∙◌}
 use Rattle.std.proofs.lemmas.List.Elements.{All-nil, All-cons, All-head, All-tail}
 use Rattle.reo_token.specs.declared.token.Token.{Token as CutToken}
 use Rattle.reo_token.specs.declared.token.End.TheVariants.{Over}
@@ -10,7 +10,6 @@ use Rattle.reo_grammar.specs.Lines.{Place, LineTree, Port, Channel, Component, P
 use Rattle.reo_sentence.specs.declared.said.Name.{Name}
 use Rattle.reo_sentence.specs.declared.said.Sentence as rust
 use Rattle.reo_sentence.specs.declared.said.Sentence.TheVariants as sentence
-use Rattle.reo_sentence.specs.Seen.{seen}
 use Rattle.reo_sentence.specs.Said.{Said, PortSaid, ChannelSaid, ComponentSaid, PutSaid, GetSaid, name_at, StandsIn, NamesStandIn, IsNameIn, AreNamesIn, numbered_sentence, said}
 use Rattle.reo_sentence.specs.ReadLine.{Says}
 use Rattle.reo_sentence.proofs.QuoteLemmas.{IsUtf8Word, utf8_words}

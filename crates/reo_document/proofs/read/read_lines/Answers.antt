@@ -24,6 +24,7 @@ lines-preserved c = record {
       (c.next_line.ensures.exact ∙ ap (λ m. c.next_line.result.0.now ∷ lines_behind (option_copied m)) c.in-Some.is)
       (omega (arith, subst (λ m. IfSome m (λ r. length c.next_line.result.0.now + length r.now < length c.lines.rest.now)) c.in-Some.is c.next_line.ensures.fewer)) c.in_ok-read.ensures.goes c.in_ok-read.ensures.lines;
   owners = c.in_ok-read.ensures.owners;
+  ports = c.in_ok-read.ensures.ports;
   room =
       let fewer : length c.next_line.result.0.now + length c.in-Some.more.now < length c.lines.rest.now =
       subst (λ m. IfSome m (λ r. length c.next_line.result.0.now + length r.now < length c.lines.rest.now)) c.in-Some.is c.next_line.ensures.fewer in
