@@ -23,8 +23,9 @@ use Rattle.reo_coupling.specs.declared.view.CellsView.{CellsView}
 use Rattle.reo_coupling.specs.declared.view.RegionView.{RegionView}
 use Rattle.reo_coupling.specs.declared.view.Stage.TheVariants.{Between, Cleared}
 use Rattle.reo_coupling.specs.Moment.{Setting, Moment, state_of, round_place, cell_place}
-use Rattle.reo_coupling.specs.Parts.{view_of, word_at, held_at, fill_due, take_due, IsLasting, StillStands, NotesStand, NothingDue, StoresAreDue, DuesAreOfTheLast, clearance, cleared_below, KeepsTheLimit, StandsFor, CellsShow, AreCounted, IsLawful, entries_of}
-use Rattle.reo_coupling.specs.Steps.{Commits, KeepsEachPart, noted}
+use Rattle.reo_coupling.specs.Parts.{view_of, word_at, held_at, fill_due, take_due, IsLasting, StillStands, NotesStand, NothingDue, StoresAreDue, DuesAreOfTheLast, clearance, cleared_below, KeepsTheLimit, CellsShow, AreCounted, IsLawful, entries_of}
+use Rattle.reo_coupling.specs.Whole.{StandsFor, KeepsCellParts}
+use Rattle.reo_coupling.specs.Steps.{Commits, noted}
 use Rattle.reo_coupling.proofs.OneCell.{AtEnd, commits_cell, same_shows}
 use Rattle.reo_coupling.proofs.Lists.{entries_mine, entries_other, cleared_less}
 use Rattle.reo_coupling.proofs.Frames.{each_view, field_stays, word_else, word_here, length_else, sized_stays, named_stays, rounds_stay}
@@ -44,7 +45,7 @@ empty_of : (held : Option Value) → cell_word held ≡ 0 → held ≡ None
 empty_of None word = refl
 empty_of (Some u) word = absurd (code_is_not_zero u (sym word))
 
-none_else : (o : Option Value) → ((v : Value) → o ≡ Some v → ⊥) → o ≡ None
+pub none_else : (o : Option Value) → ((v : Value) → o ≡ Some v → ⊥) → o ≡ None
 none_else None never = refl
 none_else (Some v) never = absurd (never v refl)
 
@@ -71,7 +72,7 @@ module _ (setting : Setting) (region : ℕ) (before after : Moment) (inside : re
   mine = stands.named.regions region inside
 
   -- a region that is cleared owes nothing
-  owes_nothing : NothingDue (view_of before region)
+  pub owes_nothing : NothingDue (view_of before region)
   owes_nothing =
       ⊎_elim
       (λ none. none)
@@ -83,29 +84,29 @@ module _ (setting : Setting) (region : ℕ) (before after : Moment) (inside : re
   within_state : (cell : ℕ) → cell < length setting.fabric.cells → cell < length (state_of setting before)
   within_state cell within = omega (arith, length-state_of setting before)
 
-  taker : (p : ℕ × Value) → Takes setting.fabric (noted (view_of before region)) p → IsTaker setting.fabric region p.0
+  taker : (p : ℕ × Value) → Takes setting.fabric (noted (before.book region)) p → IsTaker setting.fabric region p.0
   taker p takes = subst (λ r. IsTaker setting.fabric r p.0) mine takes.own
 
-  filler : (p : ℕ × Value) → Fills setting.fabric (noted (view_of before region)) p → IsFiller setting.fabric region p.0
+  filler : (p : ℕ × Value) → Fills setting.fabric (noted (before.book region)) p → IsFiller setting.fabric region p.0
   filler p fills = subst (λ r. IsFiller setting.fabric r p.0) mine fills.own
 
   -- what it takes is in the cell, and its word is there
-  taken : (p : ℕ × Value) → Takes setting.fabric (noted (view_of before region)) p → (word_at setting before p.0 ≡ code_of p.1) × (held_at setting before p.0 ≡ Some p.1)
+  taken : (p : ℕ × Value) → Takes setting.fabric (noted (before.book region)) p → (word_at setting before p.0 ≡ code_of p.1) × (held_at setting before p.0 ≡ Some p.1)
   taken p takes =
       let still = stands.notes region inside p.0 (code_of p.1) takes.reads (inl (code_is_above p.1, taker p takes)) in
       let within : p.0 < length setting.fabric.cells = slice_get_within setting.fabric.cells p.0 takes.own.spec takes.own.found in
       (still.word_is, full_of (held_at setting before p.0) p.1 (stands.lawful.values p.0 None (within_state p.0 within)) takes.value still.held_is)
 
-  filled : (p : ℕ × Value) → Fills setting.fabric (noted (view_of before region)) p → (word_at setting before p.0 ≡ 0) × (held_at setting before p.0 ≡ None)
+  filled : (p : ℕ × Value) → Fills setting.fabric (noted (before.book region)) p → (word_at setting before p.0 ≡ 0) × (held_at setting before p.0 ≡ None)
   filled p fills =
       let still = stands.notes region inside p.0 0 fills.reads (inr (refl, filler p fills)) in
       (still.word_is, empty_of (held_at setting before p.0) still.held_is)
 
-  found_take : (cell : ℕ) (value : Value) → at_place step.entry.takes cell ≡ Some value → Takes setting.fabric (noted (view_of before region)) (cell, value)
-  found_take cell value at = at_place_holds (Takes setting.fabric (noted (view_of before region))) step.entry.takes cell value step.may.fits.takes at
+  found_take : (cell : ℕ) (value : Value) → at_place step.entry.takes cell ≡ Some value → Takes setting.fabric (noted (before.book region)) (cell, value)
+  found_take cell value at = at_place_holds (Takes setting.fabric (noted (before.book region))) step.entry.takes cell value step.may.fits.takes at
 
-  found_fill : (cell : ℕ) (value : Value) → at_place step.entry.fills cell ≡ Some value → Fills setting.fabric (noted (view_of before region)) (cell, value)
-  found_fill cell value at = at_place_holds (Fills setting.fabric (noted (view_of before region))) step.entry.fills cell value step.may.fits.fills at
+  found_fill : (cell : ℕ) (value : Value) → at_place step.entry.fills cell ≡ Some value → Fills setting.fabric (noted (before.book region)) (cell, value)
+  found_fill cell value at = at_place_holds (Fills setting.fabric (noted (before.book region))) step.entry.fills cell value step.may.fits.fills at
 
   held_there : (cell : ℕ) → cell < length setting.fabric.cells → slice_get (state_of setting before) cell ≡ Some (held_at setting before cell)
   held_there cell within = slice_get-get_or (state_of setting before) cell None (within_state cell within)
@@ -155,8 +156,8 @@ module _ (setting : Setting) (region : ℕ) (before after : Moment) (inside : re
       ))
       (cases_eq spec.taker region)
 
-  pub commit_cells : CellsShow setting after
-  commit_cells cell spec found =
+  pub commit_shows : CellsShow setting after
+  commit_shows cell spec found =
       same_shows (word_at setting before cell) (word_at setting after cell) _ (held_at setting after cell) (fill_due after spec.filler cell) _ (take_due after spec.taker cell) _ (word_stays cell)
       (held_after cell (slice_get_within setting.fabric.cells cell spec found)) refl refl
       (commits_cell (word_at setting before cell) (held_at setting before cell) (at_place step.entry.takes cell) (at_place step.entry.fills cell) (fill_due before spec.filler cell) (fill_due after spec.filler cell)
@@ -166,7 +167,7 @@ module _ (setting : Setting) (region : ℕ) (before after : Moment) (inside : re
   pub commit_lawful : IsLawful setting after
   commit_lawful = record {
     history = subst (IsLawfulHistory (first_state setting.fabric)) (sym step.history) grown.0;
-    values = subst AreValues (sym state_is) (values_after setting.fabric (noted (view_of before region)) step.entry (state_of setting before) step.may.fits stands.lawful.values);
+    values = subst AreValues (sym state_is) (values_after setting.fabric (noted (before.book region)) step.entry (state_of setting before) step.may.fits stands.lawful.values);
   }
 
   pub commit_counted : AreCounted setting after
@@ -251,14 +252,14 @@ module _ (setting : Setting) (region : ℕ) (before after : Moment) (inside : re
       cleared_less setting.fabric.regions before.book after.book region inside stages (ap (λ v. clearance v.stage) step.view) (ap clearance step.may.cleared) in
       omega (arith, stands.limit, ap length step.history, length-append before.history (step.entry ∷ []))
 
-pub commit_keeps : KeepsEachPart Commits
-commit_keeps = record {
+pub commit_cells : KeepsCellParts Commits
+commit_cells = record {
   sized = λ setting region before after within stands step. sized_stays setting before after (length_else before.words after.words _ _ step.words) stands.sized;
   named = λ setting region before after within stands step.
       named_stays setting before after (field_stays (λ v. v.region) region before after _ step.view refl step.others) (field_stays (λ v. v.limit) region before after _ step.view refl step.others) stands.named;
   counted = commit_counted;
   lawful = commit_lawful;
-  cells = commit_cells;
+  cells = commit_shows;
   notes = commit_notes;
   dues = commit_dues;
   limit = commit_limit;

@@ -1,9 +1,17 @@
 pub mod OneCell
 pub mod Lists
+pub mod OnePort
 pub mod Frames
 pub mod Quiet
 pub mod Commit
 pub mod Store
+pub mod Above
+pub mod PortFrames
+pub mod PortQuiet
+pub mod PortStores
+pub mod PortCommit
+pub mod EachPart
+pub mod Fresh
 pub mod Seating
 pub mod Opening
 pub mod Numbers

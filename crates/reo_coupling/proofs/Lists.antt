@@ -13,52 +13,53 @@ use Rattle.reo_coupling.specs.declared.view.Stage.TheVariants.{Between, UnderWay
 use Rattle.reo_coupling.specs.Views.{without}
 use Rattle.reo_coupling.specs.Parts.{entries_of, clearance, cleared_below}
 
-without_on : (c : ℕ) (p : ℕ × Value) (places : List (ℕ × Value)) → nat_eq c p.0 ≡ true → without c (p ∷ places) ≡ without c places
-without_on c p places is = ap (λ b. cond b (without c places) (p ∷ without c places)) is
+module _ {A : Type 0} where
+  without_on : (c : ℕ) (p : ℕ × A) (places : List (ℕ × A)) → nat_eq c p.0 ≡ true → without c (p ∷ places) ≡ without c places
+  without_on c p places is = ap (λ b. cond b (without c places) (p ∷ without c places)) is
 
-without_off : (c : ℕ) (p : ℕ × Value) (places : List (ℕ × Value)) → nat_eq c p.0 ≡ false → without c (p ∷ places) ≡ p ∷ without c places
-without_off c p places is = ap (λ b. cond b (without c places) (p ∷ without c places)) is
+  without_off : (c : ℕ) (p : ℕ × A) (places : List (ℕ × A)) → nat_eq c p.0 ≡ false → without c (p ∷ places) ≡ p ∷ without c places
+  without_off c p places is = ap (λ b. cond b (without c places) (p ∷ without c places)) is
 
--- nothing is left at the place, and all is left at each other
-pub without_here : (c : ℕ) (places : List (ℕ × Value)) → at_place (without c places) c ≡ None
-without_here c [] = refl
-without_here c (p ∷ places) =
-    ⊎_elim
-    (λ is. ap (λ l. at_place l c) (without_on c p places is.0) ∙ without_here c places)
-    (λ not. ap (λ l. at_place l c) (without_off c p places not.0) ∙ (at_later p (without c places) c not.0 ∙ without_here c places))
-    (eqb_tells c p.0)
+  -- nothing is left at the place, and all is left at each other
+  pub without_here : (c : ℕ) (places : List (ℕ × A)) → at_place (without c places) c ≡ None
+  without_here c [] = refl
+  without_here c (p ∷ places) =
+      ⊎_elim
+      (λ is. ap (λ l. at_place l c) (without_on c p places is.0) ∙ without_here c places)
+      (λ not. ap (λ l. at_place l c) (without_off c p places not.0) ∙ (at_later p (without c places) c not.0 ∙ without_here c places))
+      (eqb_tells c p.0)
 
-pub without_else : (c d : ℕ) (places : List (ℕ × Value)) → (d ≡ c → ⊥) → at_place (without c places) d ≡ at_place places d
-without_else c d [] ne = refl
-without_else c d (p ∷ places) ne =
-    ⊎_elim
-    (λ is. ap (λ l. at_place l d) (without_on c p places is.0) ∙ (without_else c d places ne ∙ sym (at_later p places d (ne_eqb d p.0 (λ e. ne (e ∙ sym is.1))))))
-    (λ not.
-    ap (λ l. at_place l d) (without_off c p places not.0)
-    ∙ ⊎_elim
-    (λ here. at_first p (without c places) d here.0 ∙ sym (at_first p places d here.0))
-    (λ later. at_later p (without c places) d later.0 ∙ (without_else c d places ne ∙ sym (at_later p places d later.0)))
-    (eqb_tells d p.0))
-    (eqb_tells c p.0)
+  pub without_else : (c d : ℕ) (places : List (ℕ × A)) → (d ≡ c → ⊥) → at_place (without c places) d ≡ at_place places d
+  without_else c d [] ne = refl
+  without_else c d (p ∷ places) ne =
+      ⊎_elim
+      (λ is. ap (λ l. at_place l d) (without_on c p places is.0) ∙ (without_else c d places ne ∙ sym (at_later p places d (ne_eqb d p.0 (λ e. ne (e ∙ sym is.1))))))
+      (λ not.
+      ap (λ l. at_place l d) (without_off c p places not.0)
+      ∙ ⊎_elim
+      (λ here. at_first p (without c places) d here.0 ∙ sym (at_first p places d here.0))
+      (λ later. at_later p (without c places) d later.0 ∙ (without_else c d places ne ∙ sym (at_later p places d later.0)))
+      (eqb_tells d p.0))
+      (eqb_tells c p.0)
 
--- what is left was there
-pub without_found : (c d : ℕ) (places : List (ℕ × Value)) (value : Value) → at_place (without c places) d ≡ Some value → at_place places d ≡ Some value
-without_found c d places value found =
-    ⊎_elim
-    (λ is.
-    let none : at_place (without c places) d ≡ None = subst (λ n. at_place (without c places) n ≡ None) (sym is) (without_here c places) in
-    cc)
-    (λ ne. sym (without_else c d places ne) ∙ found)
-    (cases_eq d c)
+  -- what is left was there
+  pub without_found : (c d : ℕ) (places : List (ℕ × A)) (value : A) → at_place (without c places) d ≡ Some value → at_place places d ≡ Some value
+  without_found c d places value found =
+      ⊎_elim
+      (λ is.
+      let none : at_place (without c places) d ≡ None = subst (λ n. at_place (without c places) n ≡ None) (sym is) (without_here c places) in
+      cc)
+      (λ ne. sym (without_else c d places ne) ∙ found)
+      (cases_eq d c)
 
-pub without_rises : (c : ℕ) (places : List (ℕ × Value)) (low : ℕ) → RisesFrom low places → RisesFrom low (without c places)
-without_rises c [] low rise = tt
-without_rises c (p ∷ places) low rise =
-    let rest : RisesFrom (p.0 + 1) (without c places) = without_rises c places (p.0 + 1) rise.1 in
-    ⊎_elim
-    (λ is. subst (RisesFrom low) (sym (without_on c p places is.0)) (rises_from_below (without c places) low (p.0 + 1) (omega (arith, rise.0)) rest))
-    (λ not. subst (RisesFrom low) (sym (without_off c p places not.0)) (rise.0, rest))
-    (eqb_tells c p.0)
+  pub without_rises : (c : ℕ) (places : List (ℕ × A)) (low : ℕ) → RisesFrom low places → RisesFrom low (without c places)
+  without_rises c [] low rise = tt
+  without_rises c (p ∷ places) low rise =
+      let rest : RisesFrom (p.0 + 1) (without c places) = without_rises c places (p.0 + 1) rise.1 in
+      ⊎_elim
+      (λ is. subst (RisesFrom low) (sym (without_on c p places is.0)) (rises_from_below (without c places) low (p.0 + 1) (omega (arith, rise.0)) rest))
+      (λ not. subst (RisesFrom low) (sym (without_off c p places not.0)) (rise.0, rest))
+      (eqb_tells c p.0)
 
 -- what is at a place of a list with one place more at its end
 pub at_more : (places : List (ℕ × ℕ)) (c d w x : ℕ) → at_place (places ++ (c, w) ∷ []) d ≡ Some x → (at_place places d ≡ Some x) ⊎ ((d ≡ c) × (w ≡ x))

@@ -46,6 +46,10 @@ only_commits = record {
   begins = λ setting region before after step. (step.history, ap (state_after (first_state setting.fabric)) step.history);
   reads_clock = λ setting region before after step. (step.history, ap (state_after (first_state setting.fabric)) step.history);
   sees_cell = λ setting region before after step. (step.history, ap (state_after (first_state setting.fabric)) step.history);
+  sees_port = λ setting region before after step. (step.history, ap (state_after (first_state setting.fabric)) step.history);
+  sees_offer = λ setting region before after step. (step.history, ap (state_after (first_state setting.fabric)) step.history);
   sets_cell = λ setting region before after step. (step.history, ap (state_after (first_state setting.fabric)) step.history);
+  sets_got = λ setting region before after step. (step.history, ap (state_after (first_state setting.fabric)) step.history);
+  answers = λ setting region before after step. (step.history, ap (state_after (first_state setting.fabric)) step.history);
   commits = λ setting region before after inside stands step. (agrees setting region before after inside stands step, state_is setting region before after inside stands step);
 }

@@ -9,8 +9,9 @@ use Rattle.reo_coupling.specs.declared.view.Stage.{Stage}
 use Rattle.reo_coupling.specs.declared.view.Stage.TheVariants.{UnderWay, Cleared}
 use Rattle.reo_coupling.specs.Moment.{Setting, Moment, round_place, cell_place}
 use Rattle.reo_coupling.specs.Views.{round_after, after_begin, after_clock, after_see_cell, stage_at}
-use Rattle.reo_coupling.specs.Parts.{view_of, word_at, fill_due, take_due, IsLasting, StillStands, NothingDue, StoresAreDue, DuesAreOfTheLast, clearance, KeepsTheLimit, StandsFor, CellsShow}
-use Rattle.reo_coupling.specs.Steps.{Begins, ReadsClock, SeesCell, KeepsEachPart, OthersStay}
+use Rattle.reo_coupling.specs.Parts.{view_of, word_at, fill_due, take_due, IsLasting, StillStands, NothingDue, StoresAreDue, DuesAreOfTheLast, clearance, KeepsTheLimit, CellsShow}
+use Rattle.reo_coupling.specs.Whole.{StandsFor, KeepsCellParts}
+use Rattle.reo_coupling.specs.Steps.{Begins, ReadsClock, SeesCell, OthersStay}
 use Rattle.reo_coupling.proofs.OneCell.{reads_full, reads_empty}
 use Rattle.reo_coupling.proofs.Lists.{at_more, cleared_few}
 use Rattle.reo_coupling.proofs.Frames.{each_view, field_stays, word_else, word_here, length_else, sized_stays, named_stays, counted_stays, lawful_stays, cells_stay, notes_stay, limit_stays, rounds_stay}
@@ -30,8 +31,8 @@ pub dues_none : (setting : Setting) (region : ℕ) (before after : Moment) (now 
 dues_none setting region before after now is others none dues =
     each_view (λ r view. NothingDue view ⊎ StoresAreDue setting.fabric r view) region before after now is others setting.fabric.regions (λ within. inl none) (λ r within ne. dues r within)
 
-pub begin_keeps : KeepsEachPart Begins
-begin_keeps = record {
+pub begin_cells : KeepsCellParts Begins
+begin_cells = record {
   sized = λ setting region before after within stands step. sized_stays setting before after (length_else before.words after.words _ _ step.words) stands.sized;
   named = λ setting region before after within stands step.
       named_stays setting before after (field_stays (λ v. v.region) region before after _ step.view refl step.others) (field_stays (λ v. v.limit) region before after _ step.view refl step.others) stands.named;
@@ -46,7 +47,7 @@ begin_keeps = record {
       (each_view (λ r view. (cell word : ℕ) → at_place view.notes cell ≡ Some word → IsLasting setting.fabric r cell word → StillStands setting before cell word) region before after _ step.view step.others setting.fabric.regions
       (λ inside cell word noted lasts. absurd (nothing_noted cell word noted)) (λ r inside ne. stands.notes r inside));
   dues = λ setting region before after within stands step.
-      dues_none setting region before after _ step.view step.others (same_nothing (view_of before region) (after_begin (view_of before region)) refl refl step.quiet) stands.dues;
+      dues_none setting region before after _ step.view step.others (same_nothing (view_of before region) (after_begin (view_of before region)) refl refl step.quiet.cells) stands.dues;
   limit = λ setting region before after within stands step.
       limit_stays setting before after step.history
       (λ r. each_view (λ k view. clearance view.stage ≤ clearance (view_of before k).stage) region before after _ step.view step.others (r + region + 1) (λ inside. no_clearance (view_of before region).stage) (λ k inside ne. omega arith) r (omega arith))
@@ -62,8 +63,8 @@ cleared_at : (clock limit : ℕ) (b : Bool) → nat_lt clock limit ≡ b → ((c
 cleared_at clock limit true is = inl (ltb-true clock limit is, ap (λ b. cond b Cleared UnderWay) is)
 cleared_at clock limit false is = inr (ap (λ b. cond b Cleared UnderWay) is)
 
-pub clock_keeps : KeepsEachPart ReadsClock
-clock_keeps = record {
+pub clock_cells : KeepsCellParts ReadsClock
+clock_cells = record {
   sized = λ setting region before after within stands step. sized_stays setting before after (ap length step.words) stands.sized;
   named = λ setting region before after within stands step.
       named_stays setting before after (field_stays (λ v. v.region) region before after _ step.view refl step.others) (field_stays (λ v. v.limit) region before after _ step.view refl step.others) stands.named;
@@ -78,7 +79,7 @@ clock_keeps = record {
       (each_view (λ r view. (cell word : ℕ) → at_place view.notes cell ≡ Some word → IsLasting setting.fabric r cell word → StillStands setting before cell word) region before after _ step.view step.others setting.fabric.regions
       (λ inside. stands.notes region inside) (λ r inside ne. stands.notes r inside));
   dues = λ setting region before after within stands step.
-      dues_none setting region before after _ step.view step.others (same_nothing (view_of before region) (after_clock (view_of before region) (slice_index before.words 0)) refl refl step.quiet) stands.dues;
+      dues_none setting region before after _ step.view step.others (same_nothing (view_of before region) (after_clock (view_of before region) (slice_index before.words 0)) refl refl step.quiet.cells) stands.dues;
   limit = λ setting region before after within stands step. clock_limit setting region before after within stands step;
   rounds = λ setting region before after within stands step.
       rounds_stay setting before after (λ r inside. ap (λ ws. slice_index ws (round_place r)) step.words) (field_stays (λ v. v.round) region before after _ step.view refl step.others) stands.rounds;
@@ -119,8 +120,8 @@ read_stands setting moment region cell word show none is lasts = record {
       lasts;
 }
 
-pub see_cell_keeps : KeepsEachPart SeesCell
-see_cell_keeps = record {
+pub see_cell_cells : KeepsCellParts SeesCell
+see_cell_cells = record {
   sized = λ setting region before after within stands step. sized_stays setting before after (ap length step.words) stands.sized;
   named = λ setting region before after within stands step.
       named_stays setting before after (field_stays (λ v. v.region) region before after _ step.view refl step.others) (field_stays (λ v. v.limit) region before after _ step.view refl step.others) stands.named;
@@ -136,12 +137,12 @@ see_cell_keeps = record {
       (λ inside cell word noted lasts.
       ⊎_elim
       (λ old. stands.notes region inside cell word old lasts)
-      (λ new. read_stands setting before region cell word stands.cells step.quiet (subst (λ c. word_at setting before c ≡ word) (sym new.0) new.1) lasts)
+      (λ new. read_stands setting before region cell word stands.cells step.quiet.cells (subst (λ c. word_at setting before c ≡ word) (sym new.0) new.1) lasts)
       (at_more (view_of before region).notes step.cell cell (word_at setting before step.cell) word noted))
       (λ r inside ne. stands.notes r inside));
   dues = λ setting region before after within stands step.
       dues_none setting region before after _ step.view step.others
-      (same_nothing (view_of before region) (after_see_cell (view_of before region) step.cell (cell_place setting.fabric step.cell) (slice_index before.words (cell_place setting.fabric step.cell))) refl refl step.quiet) stands.dues;
+      (same_nothing (view_of before region) (after_see_cell (view_of before region) step.cell (cell_place setting.fabric step.cell) (slice_index before.words (cell_place setting.fabric step.cell))) refl refl step.quiet.cells) stands.dues;
   limit = λ setting region before after within stands step.
       limit_stays setting before after step.history (λ r. let same = field_stays (λ v. clearance v.stage) region before after _ step.view refl step.others r in omega arith) stands.limit;
   rounds = λ setting region before after within stands step.

@@ -9,22 +9,27 @@ use Rattle.reo_coupling.specs.declared.view.Mark.TheVariants.{Fresh, Out, Home}
 use Rattle.reo_coupling.specs.declared.view.View.{View}
 use Rattle.reo_coupling.specs.declared.view.View.TheVariants as seat
 use Rattle.reo_coupling.specs.Moment.{Setting, Moment}
-use Rattle.reo_coupling.specs.Parts.{StandsFor}
-use Rattle.reo_coupling.specs.Steps.{KeepsPart, KeepsEachPart}
+use Rattle.reo_coupling.specs.Whole.{StandsFor, KeepsPart, KeepsEachPart}
 use Rattle.reo_coupling.specs.Seats.{moment_of, fresh_region, mark_at, after_split, after_join, with_view, MarkTells, IsTheSeat, SeatTells, SeatsTell, KeepsTheRule, SplittingKeepsTheRule, JoiningKeepsTheRule}
 
 -- a step that keeps each part keeps the whole
 pub whole : (Step : Setting → ℕ → Moment → Moment → Type 0) → KeepsEachPart Step → KeepsPart Step StandsFor
 whole Step each setting region before after within stands step = record {
-  sized = each.sized setting region before after within stands step;
-  named = each.named setting region before after within stands step;
-  counted = each.counted setting region before after within stands step;
-  lawful = each.lawful setting region before after within stands step;
-  cells = each.cells setting region before after within stands step;
-  notes = each.notes setting region before after within stands step;
-  dues = each.dues setting region before after within stands step;
-  limit = each.limit setting region before after within stands step;
-  rounds = each.rounds setting region before after within stands step;
+  sized = each.of_cells.sized setting region before after within stands step;
+  named = each.of_cells.named setting region before after within stands step;
+  counted = each.of_cells.counted setting region before after within stands step;
+  lawful = each.of_cells.lawful setting region before after within stands step;
+  cells = each.of_cells.cells setting region before after within stands step;
+  notes = each.of_cells.notes setting region before after within stands step;
+  dues = each.of_cells.dues setting region before after within stands step;
+  limit = each.of_cells.limit setting region before after within stands step;
+  rounds = each.of_cells.rounds setting region before after within stands step;
+  ports = each.of_ports.ports setting region before after within stands step;
+  offers = each.of_ports.offers setting region before after within stands step;
+  stores = each.of_ports.stores setting region before after within stands step;
+  answers = each.of_ports.answers setting region before after within stands step;
+  calls = each.of_ports.calls setting region before after within stands step;
+  parties = each.of_ports.parties setting region before after within stands step;
 }
 
 module _ {A : Type 0} where
@@ -154,7 +159,8 @@ pub keeps_the_rule : (Step : Setting → ℕ → Moment → Moment → Type 0) �
 keeps_the_rule Step each setting words later views id old new history rule found same step = record {
   history = history;
   book = with_view rule.book new;
-  stands = whole Step each setting old.cells.region (moment_of words rule.history rule.book) (moment_of later history (with_view rule.book new)) (the_seat setting rule.book views id old new rule.tells found same rule.stands.named.regions).within
+  folk = rule.folk;
+  stands = whole Step each setting old.cells.region (moment_of words rule.history rule.book rule.folk) (moment_of later history (with_view rule.book new) rule.folk) (the_seat setting rule.book views id old new rule.tells found same rule.stands.named.regions).within
       rule.stands step;
   tells = seat_steps setting rule.book views id old new rule.tells found same rule.stands.named.regions;
 }
@@ -264,10 +270,14 @@ module _ (setting : Setting) (book : ℕ → RegionView) (views : List View) (id
 pub splitting_keeps_the_rule : SplittingKeepsTheRule
 unfolding more changed
 splitting_keeps_the_rule setting words views id region root rule found inside fresh = record {
-  history = rule.history;
-  book = rule.book;
-  stands = rule.stands;
-  tells = root_splits setting rule.book views id region root rule.tells found inside fresh;
+  rule = record {
+    history = rule.history;
+    book = rule.book;
+    folk = rule.folk;
+    stands = rule.stands;
+    tells = root_splits setting rule.book views id region root rule.tells found inside fresh;
+  };
+  same = refl;
 }
 
 -- a seat comes home to the root
@@ -363,8 +373,12 @@ module _ (setting : Setting) (book : ℕ → RegionView) (views : List View) (id
 pub joining_keeps_the_rule : JoiningKeepsTheRule
 unfolding joined with_root
 joining_keeps_the_rule setting words views id other root view rule at_root at_other = record {
-  history = rule.history;
-  book = rule.book;
-  stands = rule.stands;
-  tells = joins setting rule.book views id other root view rule.tells at_root at_other rule.stands.named.regions;
+  rule = record {
+    history = rule.history;
+    book = rule.book;
+    folk = rule.folk;
+    stands = rule.stands;
+    tells = joins setting rule.book views id other root view rule.tells at_root at_other rule.stands.named.regions;
+  };
+  same = refl;
 }

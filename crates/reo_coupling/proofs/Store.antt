@@ -11,8 +11,9 @@ use Rattle.reo_fabric.proofs.CodeLemmas.{code_is_not_zero}
 use Rattle.reo_coupling.specs.declared.view.CellsView.{CellsView}
 use Rattle.reo_coupling.specs.Moment.{Setting, Moment, round_place, cell_place}
 use Rattle.reo_coupling.specs.Views.{without, after_set_cell}
-use Rattle.reo_coupling.specs.Parts.{view_of, word_at, held_at, fill_due, take_due, Shows, IsLasting, StillStands, NotesStand, NothingDue, StoresAreDue, DuesAreOfTheLast, clearance, StandsFor, CellsShow}
-use Rattle.reo_coupling.specs.Steps.{SetsCell, KeepsEachPart}
+use Rattle.reo_coupling.specs.Parts.{view_of, word_at, held_at, fill_due, take_due, Shows, IsLasting, StillStands, NotesStand, NothingDue, StoresAreDue, DuesAreOfTheLast, clearance, CellsShow}
+use Rattle.reo_coupling.specs.Whole.{StandsFor, KeepsCellParts}
+use Rattle.reo_coupling.specs.Steps.{SetsCell}
 use Rattle.reo_coupling.proofs.OneCell.{same_shows, take_stored, fill_stored, word_before_take, word_before_fill}
 use Rattle.reo_coupling.proofs.Lists.{without_here, without_else, without_found, without_rises}
 use Rattle.reo_coupling.proofs.Frames.{each_view, field_stays, word_else, word_here, length_else, sized_stays, named_stays, counted_stays, lawful_stays, held_stays, limit_stays, rounds_stay}
@@ -46,7 +47,7 @@ after_fill view cell word value is =
 other_place : (regions cell other : ℕ) → (other ≡ cell → ⊥) → 1 + regions + other ≡ 1 + regions + cell → ⊥
 other_place regions cell other ne is = ne (omega arith)
 
-nothing_at : (places : List (ℕ × Value)) (cell : ℕ) (value : Value) → places ≡ [] → at_place places cell ≡ Some value → ⊥
+pub nothing_at : (places : List (ℕ × Value)) (cell : ℕ) (value : Value) → places ≡ [] → at_place places cell ≡ Some value → ⊥
 nothing_at places cell value none found =
     let is : None ≡ Some value = sym (ap (λ l. at_place l cell) none) ∙ found in
     cc
@@ -78,6 +79,13 @@ module _ (setting : Setting) (region : ℕ) (before after : Moment) (inside : re
       (λ none. absurd (⊎_elim (λ take. nothing_at _ step.cell take.value none.takes take.found) (λ fill. nothing_at _ step.cell fill.value none.fills fill.found) step.due))
       (λ due. due)
       (stands.dues region inside)
+
+  pub set_within : step.cell < length setting.fabric.cells
+  set_within =
+      ⊎_elim
+      (λ take. let own = (stores.takes step.cell take.value take.found).0 in slice_get_within setting.fabric.cells step.cell own.spec own.found)
+      (λ fill. let own = (stores.fills step.cell fill.value fill.found).0 in slice_get_within setting.fabric.cells step.cell own.spec own.found)
+      step.due
 
   -- the cell itself
   cell_shows : (spec : CellSpec) → slice_get setting.fabric.cells step.cell ≡ Some spec
@@ -201,9 +209,9 @@ module _ (setting : Setting) (region : ℕ) (before after : Moment) (inside : re
   stays : {X : Type 0} (F : CellsView → X) → F (taken_off (view_of before region) step.cell) ≡ F (view_of before region) → F (filled_off (view_of before region) step.cell) ≡ F (view_of before region) → (r : ℕ) → F (view_of after r) ≡ F (view_of before r)
   stays F takes fills = field_stays F region before after _ step.view (same_field F (view_of before region) step.cell step.word takes fills) step.others
 
-pub set_cell_keeps : KeepsEachPart SetsCell
+pub set_cell_cells : KeepsCellParts SetsCell
 unfolding taken_off filled_off
-set_cell_keeps = record {
+set_cell_cells = record {
   sized = λ setting region before after within stands step. sized_stays setting before after (length_else before.words after.words _ _ step.words) stands.sized;
   named = λ setting region before after within stands step.
       named_stays setting before after (stays setting region before after within stands step (λ v. v.region) refl refl) (stays setting region before after within stands step (λ v. v.limit) refl refl) stands.named;

@@ -4,8 +4,9 @@ use Rattle.reo_fabric.specs.declared.entry.Entry.{Entry}
 use Rattle.reo_fabric.specs.declared.entry.Numbered.{Numbered}
 use Rattle.reo_fabric.specs.Entry.{Agrees, at_place, RisesFrom, carried_out}
 use Rattle.reo_coupling.specs.Moment.{Setting, Moment, state_of}
-use Rattle.reo_coupling.specs.Parts.{view_of, AreCounted, StandsFor}
-use Rattle.reo_coupling.specs.Steps.{Begins, ReadsClock, SeesCell, Commits, SetsCell}
+use Rattle.reo_coupling.specs.Parts.{view_of, AreCounted}
+use Rattle.reo_coupling.specs.Whole.{StandsFor}
+use Rattle.reo_coupling.specs.Steps.{Begins, ReadsClock, SeesCell, SeesPort, SeesOffer, Commits, SetsCell, SetsGot, Answers}
 
 -- entries by their numbers
 abbrev pub by_number : List Numbered → List (ℕ × Entry)
@@ -41,5 +42,9 @@ pub record OnlyCommitsChangeTheState : Type 0 where
   pub begins : LeavesTheHistory Begins
   pub reads_clock : LeavesTheHistory ReadsClock
   pub sees_cell : LeavesTheHistory SeesCell
+  pub sees_port : LeavesTheHistory SeesPort
+  pub sees_offer : LeavesTheHistory SeesOffer
   pub sets_cell : LeavesTheHistory SetsCell
+  pub sets_got : LeavesTheHistory SetsGot
+  pub answers : LeavesTheHistory Answers
   pub commits : CommitsCarryOut

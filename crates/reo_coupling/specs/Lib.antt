@@ -1,6 +1,11 @@
 pub mod Moment
 pub mod Views
+pub mod PortViews
+pub mod RegionViews
+pub mod Ports
 pub mod Parts
+pub mod PortParts
+pub mod Whole
 pub mod Steps
 pub mod Seats
 pub mod Opening

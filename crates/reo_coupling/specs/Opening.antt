@@ -1,5 +1,5 @@
 -- How the words and the views begin.
-use Rattle.std.specs.Prelude.{ℕ, ◌+◌, ◌<◌, ◌≤◌, ◌^◌, List, [], ◌∷◌, ◌++◌, map, replicate}
+use Rattle.std.specs.Prelude.{ℕ, ◌+◌, ◌*◌, ◌<◌, ◌≤◌, ◌^◌, List, [], ◌∷◌, ◌++◌, length, map, replicate}
 use Rattle.reo_fabric.specs.declared.fabric.Fabric.{Fabric}
 use Rattle.reo_fabric.specs.Fabric.{IsLawfulFabric, first_state}
 use Rattle.reo_fabric.specs.Reading.{cell_word}
@@ -10,9 +10,9 @@ use Rattle.reo_coupling.specs.declared.view.View.TheVariants as seat
 use Rattle.reo_coupling.specs.Moment.{Setting}
 use Rattle.reo_coupling.specs.Seats.{IsCoupled}
 
--- 0 for the commit word and for each round, then the words of the cells' first values
+-- 0 for the commit word and for each round, then the words of the cells' first values, and then 0 for each word of a port
 abbrev pub first_words : Fabric → List ℕ
-first_words fabric = replicate (1 + fabric.regions) 0 ++ map (λ spec. cell_word spec.first) fabric.cells
+first_words fabric = (replicate (1 + fabric.regions) 0 ++ map (λ spec. cell_word spec.first) fabric.cells) ++ replicate (2 * length fabric.ports) 0
 
 -- no seat is made yet
 abbrev pub first_root : Setting → RootView

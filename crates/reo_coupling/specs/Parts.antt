@@ -1,5 +1,5 @@
 -- What the words stand for, part by part. Each part speaks of the words, the history and the views at one moment.
-use Rattle.std.specs.Prelude.{◌≡◌, ℕ, zero, suc, ◌+◌, ◌<◌, ◌≤◌, ◌^◌, ◌⊎◌, List, [], ◌∷◌, ◌++◌, length, slice_index, slice_get, All, Option, Some, None, nat_eq, if◌then◌else◌}
+use Rattle.std.specs.Prelude.{◌≡◌, ℕ, zero, suc, ◌+◌, ◌*◌, ◌<◌, ◌≤◌, ◌^◌, ◌⊎◌, List, [], ◌∷◌, ◌++◌, length, slice_index, slice_get, All, Option, Some, None, nat_eq, if◌then◌else◌}
 use Rattle.reo_value.specs.declared.value.Value.{Value}
 use Rattle.reo_value.specs.Code.{code_of}
 use Rattle.reo_fabric.specs.declared.entry.Entry.{Entry}
@@ -21,11 +21,11 @@ use Rattle.reo_coupling.specs.Moment.{Setting, Moment, state_of, round_place, ce
 abbrev pub view_of : Moment → ℕ → CellsView
 view_of moment region = (moment.book region).cells
 
--- The fabric is lawful and the limit small, and there is a word for each region and each cell.
+-- The fabric is lawful and the limit small, and there is a word for each region and each cell, and two for each port.
 pub record HasItsWords (setting : Setting) (moment : Moment) : Type 0 where
   pub fabric : IsLawfulFabric setting.fabric
   pub limit : setting.limit < 2 ^ 31
-  pub words : 1 + setting.fabric.regions + length setting.fabric.cells ≤ length moment.words
+  pub words : 1 + setting.fabric.regions + length setting.fabric.cells + 2 * length setting.fabric.ports ≤ length moment.words
 
 -- Each view is that of its region, and has the limit.
 pub record AreNamed (setting : Setting) (moment : Moment) : Type 0 where
@@ -135,15 +135,3 @@ KeepsTheLimit setting moment = length moment.history + cleared_below setting.fab
 -- Each region's round word is the round of its view.
 abbrev pub RoundsAreTold : Setting → Moment → Type 0
 RoundsAreTold setting moment = (region : ℕ) → region < setting.fabric.regions → slice_index moment.words (round_place region) ≡ (view_of moment region).round
-
--- The words and views at a moment stand for its history.
-pub record StandsFor (setting : Setting) (moment : Moment) : Type 0 where
-  pub sized : HasItsWords setting moment
-  pub named : AreNamed setting moment
-  pub counted : AreCounted setting moment
-  pub lawful : IsLawful setting moment
-  pub cells : CellsShow setting moment
-  pub notes : NotesStand setting moment
-  pub dues : DuesAreOfTheLast setting moment
-  pub limit : KeepsTheLimit setting moment
-  pub rounds : RoundsAreTold setting moment

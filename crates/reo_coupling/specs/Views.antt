@@ -59,7 +59,7 @@ after_commit view number entry = record view {
 }
 
 -- the places but this one
-abbrev pub without : ℕ → List (ℕ × Value) → List (ℕ × Value)
+abbrev pub without : {A : Type 0} → ℕ → List (ℕ × A) → List (ℕ × A)
 without place [] = []
 without place (p ∷ places) = if nat_eq place p.0 then without place places else p ∷ without place places
 

@@ -1,6 +1,6 @@
 //! The step law, each law a function that does nothing.
-ghost use Rattle.reo_coupling.specs.Parts.{StandsFor};
-ghost use Rattle.reo_coupling.specs.Steps.{Begins, ReadsClock, SeesCell, Commits, SetsCell, KeepsPart, KeepsEachPart};
+ghost use Rattle.reo_coupling.specs.Whole.{StandsFor, KeepsPart, KeepsEachPart};
+ghost use Rattle.reo_coupling.specs.Steps.{Begins, ReadsClock, SeesCell, SeesPort, SeesOffer, Commits, SetsCell, SetsGot, Answers};
 ghost use Rattle.reo_coupling.specs.Seats.{KeepsTheRule, SplittingKeepsTheRule, JoiningKeepsTheRule};
 ghost use Rattle.reo_coupling.specs.Opening.{OpensCoupled};
 ghost use Rattle.reo_coupling.specs.Sources.{TakesHaveSources};
@@ -27,6 +27,20 @@ pub fn see_cell_keeps()
     ensures seats { KeepsTheRule SeesCell }
 {}
 
+/// Where a region reads the state word of a port, each part is kept.
+pub fn see_port_keeps()
+    ensures parts { KeepsEachPart SeesPort }
+    ensures whole { KeepsPart SeesPort StandsFor }
+    ensures seats { KeepsTheRule SeesPort }
+{}
+
+/// Where a region reads what is offered at a port, each part is kept.
+pub fn see_offer_keeps()
+    ensures parts { KeepsEachPart SeesOffer }
+    ensures whole { KeepsPart SeesOffer StandsFor }
+    ensures seats { KeepsTheRule SeesOffer }
+{}
+
 /// Where a region commits, each part is kept.
 pub fn commit_keeps()
     ensures parts { KeepsEachPart Commits }
@@ -39,6 +53,20 @@ pub fn set_cell_keeps()
     ensures parts { KeepsEachPart SetsCell }
     ensures whole { KeepsPart SetsCell StandsFor }
     ensures seats { KeepsTheRule SetsCell }
+{}
+
+/// Where a region stores the datum of a get, each part is kept.
+pub fn set_got_keeps()
+    ensures parts { KeepsEachPart SetsGot }
+    ensures whole { KeepsPart SetsGot StandsFor }
+    ensures seats { KeepsTheRule SetsGot }
+{}
+
+/// Where a region answers a port, each part is kept.
+pub fn answer_keeps()
+    ensures parts { KeepsEachPart Answers }
+    ensures whole { KeepsPart Answers StandsFor }
+    ensures seats { KeepsTheRule Answers }
 {}
 
 /// Where the root gives away the seat of a region, the rule is kept.

@@ -5,4 +5,7 @@
 pub mod laws;
 mod view;
 
-pub use view::{CellsView, Loaded, Mark, RegionView, RootView, Stage, View};
+pub use view::{
+    Call, CellsView, Loaded, Mark, Offer, PartyView, PortView, PortsView, RegionView, RootView,
+    Stage, View,
+};

@@ -1,26 +1,39 @@
 -- The history for which the words stand, as far as a seat is told of it.
-use Rattle.std.specs.Prelude.{◌≡◌, ℕ, List, [], ◌∷◌, ◌++◌, length}
+use Rattle.std.specs.Prelude.{◌≡◌, ℕ, ◌+◌, ◌<◌, List, [], ◌∷◌, ◌++◌, length, All}
 use Rattle.reo_fabric.specs.declared.entry.Entry.{Entry}
 use Rattle.reo_fabric.specs.Entry.{content_at}
 use Rattle.reo_fabric.specs.Fabric.{first_state}
 use Rattle.reo_fabric.specs.History.{IsLawfulHistory, state_after}
 use Rattle.reo_fabric.specs.Reading.{cell_word}
 use Rattle.reo_coupling.specs.declared.view.CellsView.{CellsView}
+use Rattle.reo_coupling.specs.declared.view.RegionView.{RegionView}
 use Rattle.reo_coupling.specs.Moment.{Setting}
 use Rattle.reo_coupling.specs.Parts.{entries_of, IsLasting}
+use Rattle.reo_coupling.specs.PortParts.{OwesNothing}
 
--- There is a lawful history of this many entries, and the view has the region's entries of it, with their numbers.
-pub record HasHistory (setting : Setting) (view : CellsView) (count : ℕ) : Type 0 where
+-- The view is that of a region of this setting, and where the region has no entry, no store is due.
+pub record IsViewIn (setting : Setting) (view : RegionView) : Type 0 where
+  pub region : view.cells.region < setting.fabric.regions
+  pub limit : view.cells.limit ≡ setting.limit
+  pub fresh : view.cells.entries ≡ [] → OwesNothing view
+
+-- There is a lawful history of this many entries of regions, fewer than the limit and the regions together, and the view has
+-- its region's entries of it, with their numbers.
+pub record HasHistory (setting : Setting) (view : RegionView) (count : ℕ) : Type 0 where
+  pub own : IsViewIn setting view
   pub history : List Entry
   pub counted : length history ≡ count
+  pub few : count < setting.limit + setting.fabric.regions
+  pub regions : All (λ entry. entry.region < setting.fabric.regions) history
   pub lawful : IsLawfulHistory (first_state setting.fabric) history
-  pub mine : view.entries ≡ entries_of view.region 0 history
+  pub mine : view.cells.entries ≡ entries_of view.cells.region 0 history
 
 -- The entry has this number in a lawful history, in which it is the last, and the view has the region's entries of it, with
 -- their numbers.
 pub record IsNumbered (setting : Setting) (view : CellsView) (number : ℕ) (entry : Entry) : Type 0 where
   pub earlier : List Entry
   pub counted : number ≡ length earlier
+  pub few : number < setting.limit + setting.fabric.regions
   pub lawful : IsLawfulHistory (first_state setting.fabric) (earlier ++ entry ∷ [])
   pub mine : view.entries ≡ entries_of view.region 0 (earlier ++ entry ∷ [])
 

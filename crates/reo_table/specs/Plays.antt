@@ -2,13 +2,13 @@
 use Rattle.std.specs.Prelude.{◌≡◌, ℕ, []}
 use Rattle.atomic_table.specs.Table.{Me}
 use Rattle.reo_fabric.specs.declared.entry.Entry.{Entry}
-use Rattle.reo_coupling.specs.declared.view.CellsView.{CellsView}
 use Rattle.reo_coupling.specs.declared.view.RegionView.{RegionView}
 use Rattle.reo_coupling.specs.declared.view.RootView.{RootView}
 use Rattle.reo_coupling.specs.declared.view.View.{View}
 use Rattle.reo_coupling.specs.declared.view.View.TheVariants.{Root, Region, Spent}
 use Rattle.reo_coupling.specs.Moment.{Setting}
-use Rattle.reo_coupling.specs.Views.{after_begin, after_clock, after_see_cell, after_commit, after_set_cell}
+use Rattle.reo_coupling.specs.Views.{after_commit}
+use Rattle.reo_coupling.specs.RegionViews.{region_after_begin, region_after_clock, region_after_see_cell, region_after_see_port, region_after_see_offer, region_after_commit, region_after_set_cell, region_after_set_got, region_after_answer}
 use Rattle.reo_coupling.specs.Seats.{fresh_region}
 use Rattle.reo_coupling.specs.Opening.{first_root}
 use Rattle.reo_table.specs.declared.rule.Key.{Key}
@@ -32,26 +32,38 @@ root_of (Root view) = view
 root_of (Region view) = first_root no_setting
 root_of Spent = first_root no_setting
 
--- the seat has this view of its cells now, and no slot of the table
-abbrev pub Leaves : {S : Type 0} → CellsView → Me S View → Type 0
-Leaves cells after = (after.0 ≡ Region (record { cells = cells })) × (after.1 ≡ [])
+-- the seat has this view now, and no slot of the table
+abbrev pub Leaves : {S : Type 0} → RegionView → Me S View → Type 0
+Leaves view after = (after.0 ≡ Region view) × (after.1 ≡ [])
 
-abbrev pub cells_of : {S : Type 0} → Me S View → CellsView
-cells_of before = (region_of before.0).cells
+abbrev pub view_before : {S : Type 0} → Me S View → RegionView
+view_before before = region_of before.0
 
 -- the word found is the view's round
 abbrev pub Begun : {S : Type 0} → Me S View → ℕ → Me S View → Type 0
-Begun before found after = (found ≡ (cells_of before).round) × Leaves (after_begin (cells_of before)) after
+Begun before found after = (found ≡ (view_before before).cells.round) × Leaves (region_after_begin (view_before before)) after
 
 abbrev pub Clocked : {S : Type 0} → Setting → Me S View → ℕ → Me S View → Type 0
-Clocked setting before found after = HasHistory setting (cells_of before) found × Leaves (after_clock (cells_of before) found) after
+Clocked setting before found after = HasHistory setting (view_before before) found × Leaves (region_after_clock (view_before before) found) after
 
 abbrev pub Seen : {S : Type 0} → Setting → ℕ → ℕ → Me S View → ℕ → Me S View → Type 0
-Seen setting cell place before found after = SaysWhatIsHeld setting (cells_of before) cell found × Leaves (after_see_cell (cells_of before) cell place found) after
+Seen setting cell place before found after = SaysWhatIsHeld setting (view_before before).cells cell found × Leaves (region_after_see_cell (view_before before) cell place found) after
+
+abbrev pub PortSeen : {S : Type 0} → ℕ → ℕ → Me S View → ℕ → Me S View → Type 0
+PortSeen port place before found after = Leaves (region_after_see_port (view_before before) port place found) after
+
+abbrev pub OfferSeen : {S : Type 0} → ℕ → ℕ → Me S View → ℕ → Me S View → Type 0
+OfferSeen port place before found after = Leaves (region_after_see_offer (view_before before) port place found) after
 
 abbrev pub Committed : {S : Type 0} → Setting → Entry → Me S View → ℕ → Me S View → Type 0
 Committed setting entry before found after =
-    IsNumbered setting (after_commit (cells_of before) found entry) found entry × Leaves (after_commit (cells_of before) found entry) after
+    IsNumbered setting (after_commit (view_before before).cells found entry) found entry × Leaves (region_after_commit (view_before before) found entry) after
 
 abbrev pub Stored : {S : Type 0} → ℕ → Me S View → ℕ → Me S View → Type 0
-Stored cell before word after = Leaves (after_set_cell (cells_of before) cell word) after
+Stored cell before word after = Leaves (region_after_set_cell (view_before before) cell word) after
+
+abbrev pub GotStored : {S : Type 0} → ℕ → Me S View → ℕ → Me S View → Type 0
+GotStored port before word after = Leaves (region_after_set_got (view_before before) port) after
+
+abbrev pub PortAnswered : {S : Type 0} → ℕ → Me S View → ℕ → Me S View → Type 0
+PortAnswered port before word after = Leaves (region_after_answer (view_before before) port) after

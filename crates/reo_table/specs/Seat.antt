@@ -1,5 +1,5 @@
 -- What is true of a region's seat.
-use Rattle.std.specs.Prelude.{◌≡◌, ℕ, ◌+◌, ◌<◌, ◌≤◌, []}
+use Rattle.std.specs.Prelude.{◌≡◌, ℕ, ◌+◌, ◌<◌, ◌≤◌, ◌^◌, []}
 use Rattle.atomic_table.specs.Table.{Me}
 use Rattle.reo_coupling.specs.declared.view.View.{View}
 use Rattle.reo_coupling.specs.declared.view.View.TheVariants.{Region}
@@ -9,12 +9,14 @@ use Rattle.reo_table.specs.declared.clock.Clock.{Clock}
 use Rattle.reo_table.specs.declared.clock.Clock.TheVariants.{Clear, AtLimit}
 use Rattle.reo_table.specs.Plays.{region_of}
 
-pub record IsRegionSeat {S : Type 0} (words : ℕ) (me : Me S View) (region round limit : ℕ) : Type 0 where
+pub record IsRegionSeat {S : Type 0} (words : ℕ) (me : Me S View) (region round limit last : ℕ) : Type 0 where
   pub view : me.0 ≡ Region (region_of me.0)
   pub no_slot : me.1 ≡ []
   pub region_is : region ≡ (region_of me.0).cells.region
   pub round_is : round ≡ (region_of me.0).cells.round
   pub limit_is : limit ≡ (region_of me.0).cells.limit
+  pub last_is : last ≡ (region_of me.0).ports.last
+  pub few : last < 2 ^ 62
   -- there is a word for its round
   pub within : 1 + region < words
 

@@ -1,11 +1,10 @@
 -- The shared words and the seats, as contracts see them.
 use Rattle.std.specs.Prelude.{ℕ}
 use Rattle.atomic_table.specs.Seated.{TableId}
-use Rattle.reo_coupling.specs.declared.view.CellsView.{CellsView}
 use Rattle.reo_coupling.specs.declared.view.RegionView.{RegionView}
 use Rattle.reo_coupling.specs.declared.view.RootView.{RootView}
-use Rattle.reo_coupling.specs.Moment.{Setting, cell_place}
-use Rattle.reo_coupling.specs.Views.{after_see_cell}
+use Rattle.reo_coupling.specs.Moment.{Setting, cell_place, state_place, data_place}
+use Rattle.reo_coupling.specs.RegionViews.{region_after_see_cell, region_after_see_port, region_after_see_offer}
 
 pub record WordsState : Type 0 where
   -- which words they are
@@ -21,10 +20,16 @@ pub record RootState : Type 0 where
   pub id : TableId
   pub view : RootView
 
--- the seat with this view of its cells
-abbrev pub with_cells : SeatState → CellsView → SeatState
-with_cells seat cells = record { id = seat.id; view = record { cells = cells } }
+-- the seat knows this now
+abbrev pub knowing : SeatState → RegionView → SeatState
+knowing seat view = record seat { view = view }
 
--- the seat after it read this word of a cell
+-- the seat after it read this word of a cell, this state word or this data word of a port
 abbrev pub after_look : WordsState → SeatState → ℕ → ℕ → SeatState
-after_look words seat cell word = with_cells seat (after_see_cell seat.view.cells cell (cell_place words.setting.fabric cell) word)
+after_look words seat cell word = knowing seat (region_after_see_cell seat.view cell (cell_place words.setting.fabric cell) word)
+
+abbrev pub after_port_look : WordsState → SeatState → ℕ → ℕ → SeatState
+after_port_look words seat port word = knowing seat (region_after_see_port seat.view port (state_place words.setting.fabric port) word)
+
+abbrev pub after_offer_look : WordsState → SeatState → ℕ → ℕ → SeatState
+after_offer_look words seat port word = knowing seat (region_after_see_offer seat.view port (data_place words.setting.fabric port) word)

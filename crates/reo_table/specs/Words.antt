@@ -1,5 +1,5 @@
 -- What is true of the shared words, and how they are when they are made.
-use Rattle.std.specs.Prelude.{◌≡◌, ℕ, ◌+◌, length}
+use Rattle.std.specs.Prelude.{◌≡◌, ℕ, ◌+◌, ◌*◌, ◌≤◌, length}
 use Rattle.atomic_table.specs.Seated.{TableId}
 use Rattle.reo_fabric.specs.declared.fabric.Fabric.{Fabric}
 use Rattle.reo_fabric.specs.Fabric.{IsLawfulFabric}
@@ -11,11 +11,13 @@ use Rattle.reo_table.specs.Shared.{WordsState, RootState}
 abbrev pub words_state : TableId → Key → WordsState
 words_state id key = record { id = id; setting = setting_of key }
 
--- a word for each region and cell, one more, and no slot
-pub record IsWords (id : TableId) (key : Key) (regions : ℕ) : Type 0 where
+-- one word, a word for each region and each cell, two for each port, and no slot
+pub record IsWords (id : TableId) (key : Key) (regions cells : ℕ) : Type 0 where
   pub lawful : IsLawfulFabric key.fabric.value
+  pub limit : key.limit ≤ 100000
   pub regions_are : regions ≡ key.fabric.value.regions
-  pub words : id.words ≡ 1 + key.fabric.value.regions + length key.fabric.value.cells
+  pub cells_are : cells ≡ length key.fabric.value.cells
+  pub words : id.words ≡ 1 + key.fabric.value.regions + length key.fabric.value.cells + 2 * length key.fabric.value.ports
   pub slots : id.slots ≡ 0
 
 -- Words of this fabric and limit, and their root, which gave away no seat yet.

@@ -56,6 +56,7 @@ impl Root {
             region,
             round: 0,
             limit: self.limit,
+            last: 0,
         }
     }
 }

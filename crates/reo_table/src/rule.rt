@@ -6,7 +6,8 @@ ghost use Rattle.reo_coupling.specs.Opening.{first_root};
 ghost use Rattle.reo_fabric.specs.declared.entry.Entry.{Entry as AnyEntry};
 ghost use Rattle.reo_fabric.specs.Room.{empty_entry};
 ghost use Rattle.reo_coupling.specs.Moment.{Setting};
-ghost use Rattle.reo_table.specs.Plays.{setting_of, no_setting, root_of, Begun, Clocked, Seen, Committed, Stored};
+ghost use Rattle.reo_table.specs.Plays.{setting_of, no_setting, root_of};
+ghost use Rattle.reo_table.specs.Plays.{Begun, Clocked, Seen, PortSeen, OfferSeen, Committed, Stored, GotStored, PortAnswered};
 
 use atomic_table::{Play, Split, TableRule};
 use reo_coupling::View;
@@ -39,7 +40,7 @@ impl Told for Brand {
     ghost setting = { no_setting };
 }
 
-/// the number of a cell or of a region,
+/// the number of a cell, of a port or of a region,
 pub(crate) trait Place {
     ghost place: { ℕ };
 }
@@ -79,6 +80,22 @@ impl<T: Told, P: Place> Play<(), View> for See<T, P> {
     ghost then = { λ step before found after. Seen T.setting P.place step.word before found after };
 }
 
+pub(crate) struct SeePort<P: Place> {
+    of: PhantomData<P>,
+}
+
+impl<P: Place> Play<(), View> for SeePort<P> {
+    ghost then = { λ step before found after. PortSeen P.place step.word before found after };
+}
+
+pub(crate) struct SeeOffer<P: Place> {
+    of: PhantomData<P>,
+}
+
+impl<P: Place> Play<(), View> for SeeOffer<P> {
+    ghost then = { λ step before found after. OfferSeen P.place step.word before found after };
+}
+
 pub(crate) struct Commit<T: Told, E: Said> {
     of: PhantomData<(T, E)>,
 }
@@ -93,6 +110,22 @@ pub(crate) struct Store<P: Place> {
 
 impl<P: Place> Play<(), View> for Store<P> {
     ghost then = { λ step before word after. Stored P.place before word after };
+}
+
+pub(crate) struct StoreGot<P: Place> {
+    of: PhantomData<P>,
+}
+
+impl<P: Place> Play<(), View> for StoreGot<P> {
+    ghost then = { λ step before word after. GotStored P.place before word after };
+}
+
+pub(crate) struct StoreAnswer<P: Place> {
+    of: PhantomData<P>,
+}
+
+impl<P: Place> Play<(), View> for StoreAnswer<P> {
+    ghost then = { λ step before word after. PortAnswered P.place before word after };
 }
 
 pub(crate) struct Give<P: Place> {

@@ -1,10 +1,10 @@
 //! The shared words.
-ghost use Rattle.std.specs.Prelude.{◌≡◌, ◌<◌, ◌≤◌, ◌+◌, ◌^◌, length, map, slice_get, None, Some, IfSome, IfOk, replicate, ◌++◌};
+ghost use Rattle.std.specs.Prelude.{◌≡◌, ◌<◌, ◌≤◌, ◌+◌, ◌*◌, ◌^◌, length, map, slice_get, None, Some, IfSome, IfOk, replicate, ◌++◌};
 ghost use Rattle.reo_fabric.specs.Fabric.{IsLawfulFabric, first_state};
 ghost use Rattle.reo_fabric.specs.Laws.{AreValues};
 ghost use Rattle.reo_fabric.specs.Reading.{cell_word};
 ghost use Rattle.reo_value.specs.Code.{IsValue};
-ghost use Rattle.reo_coupling.specs.Moment.{round_place, cell_place};
+ghost use Rattle.reo_coupling.specs.Moment.{round_place, cell_place, state_place, data_place};
 ghost use Rattle.reo_coupling.specs.Opening.{first_words, first_root};
 ghost use Rattle.reo_table.specs.Words.{Opened};
 
@@ -18,11 +18,13 @@ use std::alloc::{AllocError, Global};
 use std::marker::Model;
 use std::snapshot::Snapshot;
 
-/// The commit word, a round word for each region and a word for each cell, which threads share by `&`.
+/// The commit word, a round word for each region, a word for each cell, and a state word and a data word for each port, which
+/// threads share by `&`.
 #[derive(Drop)]
 pub struct Words {
     pub(crate) table: Table<(), View, Key, Coupled, Global>,
     pub(crate) regions: u32,
+    pub(crate) cells: u32,
 }
 
 impl Model for Words {
@@ -33,7 +35,7 @@ impl Model for Words {
 
     ghost view = { λ w. words_state w.table.shared.table_id w.table.shared.key };
 
-    ghost invariant = { λ w. IsWords w.table.shared.table_id w.table.shared.key w.regions };
+    ghost invariant = { λ w. IsWords w.table.shared.table_id w.table.shared.key w.regions w.cells };
 }
 
 impl Words {
@@ -53,6 +55,7 @@ impl Words {
         let words = Words {
             table,
             regions: fabric.regions,
+            cells: fabric.cells.as_slice().len() as u32,
         };
         Ok((words, Root { seat, limit }))
     }
@@ -62,6 +65,20 @@ impl Words {
         ensures { result ≡ cell_place self.now.setting.fabric cell }
     {
         1 + self.regions as usize + cell as usize
+    }
+
+    /// Where the state word of a port stands.
+    pub(crate) fn state_index(&self, port: u32) -> usize
+        ensures { result ≡ state_place self.now.setting.fabric port }
+    {
+        1 + self.regions as usize + self.cells as usize + 2 * port as usize
+    }
+
+    /// Where the data word of a port stands.
+    pub(crate) fn data_index(&self, port: u32) -> usize
+        ensures { result ≡ data_place self.now.setting.fabric port }
+    {
+        2 + self.regions as usize + self.cells as usize + 2 * port as usize
     }
 }
 
@@ -78,7 +95,9 @@ fn first_word(held: &Option<Value>) -> u64
 
 /// The words at the start.
 fn words_of(alloc: Global, fabric: &Fabric) -> Result<Vec<u64>, AllocError>
-    requires { fabric.now.regions < 2 ^ 31 }
+    requires regions { fabric.now.regions < 2 ^ 31 }
+    requires cells { length fabric.now.cells < 2 ^ 31 }
+    requires ports { length fabric.now.ports < 2 ^ 31 }
     ensures words { IfOk result (λ words. words.items ≡ first_words fabric.now) }
     ensures values { IfOk result (λ words. AreValues (first_state fabric.now)) }
 {
@@ -87,5 +106,7 @@ fn words_of(alloc: Global, fabric: &Fabric) -> Result<Vec<u64>, AllocError>
     for cell in fabric.cells.as_slice() {
         words.push(first_word(&cell.first))?;
     }
+    let length = words.len() + 2 * fabric.ports.as_slice().len();
+    words.resize(length, 0)?;
     Ok(words)
 }

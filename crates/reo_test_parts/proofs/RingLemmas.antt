@@ -8,11 +8,11 @@ use Rattle.reo_fabric.specs.Entry.{at_place}
 use Rattle.reo_fabric.specs.Fabric.{IsTaker, IsFiller}
 use Rattle.reo_fabric.proofs.PlaceLemmas.{at_first}
 use Rattle.reo_coupling.specs.Moment.{Setting}
-use Rattle.reo_coupling.specs.Views.{after_commit, after_set_cell}
-use Rattle.reo_coupling.specs.Parts.{NothingDue}
+use Rattle.reo_coupling.specs.RegionViews.{region_after_commit, region_after_set_cell}
+use Rattle.reo_coupling.specs.PortParts.{OwesNothing}
 use Rattle.reo_coupling.specs.Steps.{IsDue}
 use Rattle.reo_coupling.specs.Seats.{fresh_region}
-use Rattle.reo_table.specs.Shared.{WordsState, SeatState, RootState, with_cells}
+use Rattle.reo_table.specs.Shared.{WordsState, SeatState, RootState, knowing}
 use Rattle.reo_test_parts.specs.Ring.{ring, moved, CanPass}
 
 -- a seat that was just made
@@ -24,12 +24,12 @@ fresh_can_pass words seat root limit region from to setting is same taker filler
   taker = subst (λ (s : Setting). IsTaker s.fabric region from) (sym setting) taker;
   filler = subst (λ (s : Setting). IsFiller s.fabric region to) (sym setting) filler;
   apart = apart;
-  quiet = subst (λ (s : SeatState). NothingDue s.view.cells) (sym is) (record { takes = refl; fills = refl });
+  quiet = subst (λ (s : SeatState). OwesNothing s.view) (sym is) (record { cells = record { takes = refl; fills = refl }; gots = refl; answers = refl });
 }
 
 -- the fill is still due after the take was stored
-pub fill_still_due : (start committed stored : SeatState) (entry : Entry) (number region from to word : ℕ) (value : Value) → committed ≡ with_cells start (after_commit start.view.cells number entry)
-    → stored ≡ with_cells committed (after_set_cell committed.view.cells from 0) → entry ≡ moved region from to value → code_of value ≡ word → IsDue stored.view.cells to word
+pub fill_still_due : (start committed stored : SeatState) (entry : Entry) (number region from to word : ℕ) (value : Value) → committed ≡ knowing start (region_after_commit start.view number entry)
+    → stored ≡ knowing committed (region_after_set_cell committed.view from 0) → entry ≡ moved region from to value → code_of value ≡ word → IsDue stored.view.cells to word
 fill_still_due start committed stored entry number region from to word value commits stores is code = inr (record {
   value = value;
   found =

@@ -5,7 +5,7 @@ use Rattle.reo_fabric.specs.declared.entry.Entry.{Entry}
 use Rattle.reo_value.specs.declared.value.Value.TheVariants.{Int}
 use Rattle.reo_fabric.specs.declared.fabric.Fabric.{Fabric}
 use Rattle.reo_fabric.specs.Fabric.{IsTaker, IsFiller}
-use Rattle.reo_coupling.specs.Parts.{NothingDue}
+use Rattle.reo_coupling.specs.PortParts.{OwesNothing}
 use Rattle.reo_table.specs.Shared.{WordsState, SeatState}
 
 -- region 1 takes from cell 0 and fills cell 1, and region 0 the other way; cell 0 has a 7 in it
@@ -24,7 +24,7 @@ pub record CanPass (words : WordsState) (seat : SeatState) (region from to : ℕ
   pub taker : IsTaker words.setting.fabric region from
   pub filler : IsFiller words.setting.fabric region to
   pub apart : from ≢ to
-  pub quiet : NothingDue seat.view.cells
+  pub quiet : OwesNothing seat.view
 
 -- the entry that moves a value from one cell to another
 abbrev pub moved : ℕ → ℕ → ℕ → Value → Entry

@@ -1,5 +1,5 @@
 use Rattle.reo_coupling.specs.Steps.{Begins}
-use Rattle.reo_coupling.proofs.Quiet.{begin_keeps}
+use Rattle.reo_coupling.proofs.EachPart.{begin_keeps}
 use Rattle.reo_coupling.proofs.Seating.{whole, keeps_the_rule}
 use Rattle.reo_coupling.proofs.laws.begin_keeps.Goals as goal
 

@@ -1,5 +1,5 @@
 use Rattle.reo_coupling.specs.Steps.{ReadsClock}
-use Rattle.reo_coupling.proofs.Quiet.{clock_keeps}
+use Rattle.reo_coupling.proofs.EachPart.{clock_keeps}
 use Rattle.reo_coupling.proofs.Seating.{whole, keeps_the_rule}
 use Rattle.reo_coupling.proofs.laws.clock_keeps.Goals as goal
 

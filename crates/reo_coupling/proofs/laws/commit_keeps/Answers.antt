@@ -1,5 +1,5 @@
 use Rattle.reo_coupling.specs.Steps.{Commits}
-use Rattle.reo_coupling.proofs.Commit.{commit_keeps}
+use Rattle.reo_coupling.proofs.EachPart.{commit_keeps}
 use Rattle.reo_coupling.proofs.Seating.{whole, keeps_the_rule}
 use Rattle.reo_coupling.proofs.laws.commit_keeps.Goals as goal
 

@@ -1,5 +1,5 @@
 use Rattle.reo_coupling.specs.Steps.{SeesCell}
-use Rattle.reo_coupling.proofs.Quiet.{see_cell_keeps}
+use Rattle.reo_coupling.proofs.EachPart.{see_cell_keeps}
 use Rattle.reo_coupling.proofs.Seating.{whole, keeps_the_rule}
 use Rattle.reo_coupling.proofs.laws.see_cell_keeps.Goals as goal
 

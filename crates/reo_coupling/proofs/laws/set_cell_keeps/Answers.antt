@@ -1,5 +1,5 @@
 use Rattle.reo_coupling.specs.Steps.{SetsCell}
-use Rattle.reo_coupling.proofs.Store.{set_cell_keeps}
+use Rattle.reo_coupling.proofs.EachPart.{set_cell_keeps}
 use Rattle.reo_coupling.proofs.Seating.{whole, keeps_the_rule}
 use Rattle.reo_coupling.proofs.laws.set_cell_keeps.Goals as goal
 

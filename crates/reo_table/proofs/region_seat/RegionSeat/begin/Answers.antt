@@ -1,7 +1,7 @@
 use Rattle.std.proofs.Common.{◌≡◌, ◌+◌, ◌%◌, ◌<◌, ℕ, sym, ap, ◌∙◌, subst}
 use Rattle.atomic_table.specs.Seated.{TableId}
 use Rattle.atomic_table.specs.Table.{Allows}
-use Rattle.reo_coupling.specs.Parts.{NothingDue}
+use Rattle.reo_coupling.specs.PortParts.{OwesNothing}
 use Rattle.reo_table.specs.Shared.{SeatState, WordsState}
 use Rattle.reo_table.specs.Plays.{setting_of, region_of, Begun}
 use Rattle.reo_table.proofs.Kept.{Rule, allows_begin, round_rises}
@@ -11,7 +11,7 @@ pub fetch_add-found-requires : goal.fetch_add-found-requires
 fetch_add-found-requires c =
     let seat = c.self.inside.seat in
     let same : c.self.inside.seat.table_id ≡ c.words.inside.table.shared.table_id = ap (λ (z : SeatState). z.id) c.self.view_is ∙ (c.requires.own ∙ sym (ap (λ (z : WordsState). z.id) c.words.view_is)) in
-    let quiet : NothingDue (region_of c.self.inside.seat.me.0).cells = subst (λ (z : SeatState). NothingDue z.view.cells) (sym c.self.view_is) c.requires.quiet in
+    let quiet : OwesNothing (region_of c.self.inside.seat.me.0) = subst (λ (z : SeatState). OwesNothing z.view) (sym c.self.view_is) c.requires.quiet in
     let rises = subst (λ n. (n + c.rise_of-more.result) % 18446744073709551616 ≡ Rattle.reo_coupling.specs.Views.round_after n) c.self.invariant.round_is (round_rises c.self.inside.round c.rise_of-more.result c.rise_of-more.ensures.fits c.rise_of-more.ensures.rise) in (
       same,
       subst (λ (t : TableId). 1 + c.self.inside.region < t.words) same c.self.invariant.within,

@@ -1,7 +1,7 @@
 use Rattle.std.proofs.Common.{◌≡◌, ℕ, sym, ap, ◌∙◌, subst, arith}
 use Rattle.atomic_table.specs.Table.{Allows}
 use Rattle.reo_coupling.specs.Moment.{Setting, cell_place}
-use Rattle.reo_coupling.specs.Parts.{NothingDue}
+use Rattle.reo_coupling.specs.PortParts.{OwesNothing}
 use Rattle.reo_coupling.specs.Steps.{IsOwnCell}
 use Rattle.reo_table.specs.Shared.{SeatState, WordsState}
 use Rattle.reo_table.specs.Plays.{setting_of, region_of, Seen}
@@ -11,7 +11,7 @@ use Rattle.reo_table.proofs.region_seat.RegionSeat.see_cell_at.Goals as goal
 pub load-word-requires : goal.load-word-requires
 load-word-requires g c =
     let same : c.self.inside.seat.table_id ≡ c.words.inside.table.shared.table_id = ap (λ (z : SeatState). z.id) c.self.view_is ∙ (c.requires.own ∙ sym (ap (λ (z : WordsState). z.id) c.words.view_is)) in
-    let quiet : NothingDue (region_of c.self.inside.seat.me.0).cells = subst (λ (z : SeatState). NothingDue z.view.cells) (sym c.self.view_is) c.requires.quiet in
+    let quiet : OwesNothing (region_of c.self.inside.seat.me.0) = subst (λ (z : SeatState). OwesNothing z.view) (sym c.self.view_is) c.requires.quiet in
     let told : setting_of c.words.inside.table.shared.key ≡ g.T.Told.setting = ap (λ (z : WordsState). z.setting) c.words.view_is ∙ sym c.requires.setting in
     let own : IsOwnCell (setting_of c.words.inside.table.shared.key).fabric (region_of c.self.inside.seat.me.0).cells.region c.args.cell =
     subst (λ (z : WordsState). IsOwnCell z.setting.fabric (region_of c.self.inside.seat.me.0).cells.region c.args.cell) (sym c.words.view_is)
