@@ -6,6 +6,7 @@ pub mod Quiet
 pub mod Commit
 pub mod Store
 pub mod Above
+pub mod OneCall
 pub mod PortFrames
 pub mod PortQuiet
 pub mod PortStores
@@ -16,3 +17,5 @@ pub mod Seating
 pub mod Opening
 pub mod Numbers
 pub mod Sources
+pub mod PartyFrames
+pub mod PartySteps

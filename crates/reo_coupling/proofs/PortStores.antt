@@ -29,10 +29,10 @@ nothing_at places port x none found =
     cc
 
 -- two ports have four words
-apart_state : (fabric : Fabric) (p q : ℕ) → (p ≡ q → ⊥) → state_place fabric p ≡ state_place fabric q → ⊥
+pub apart_state : (fabric : Fabric) (p q : ℕ) → (p ≡ q → ⊥) → state_place fabric p ≡ state_place fabric q → ⊥
 apart_state fabric p q ne same = ne (omega (arith, same))
 
-apart_data : (fabric : Fabric) (p q : ℕ) → (p ≡ q → ⊥) → data_place fabric p ≡ data_place fabric q → ⊥
+pub apart_data : (fabric : Fabric) (p q : ℕ) → (p ≡ q → ⊥) → data_place fabric p ≡ data_place fabric q → ⊥
 apart_data fabric p q ne same = ne (omega (arith, same))
 
 pub state_is_no_data : (fabric : Fabric) (p q : ℕ) → state_place fabric p ≡ data_place fabric q → ⊥

@@ -6,6 +6,7 @@ pub mod Ports
 pub mod Parts
 pub mod PortParts
 pub mod Whole
+pub mod PartySteps
 pub mod Steps
 pub mod Seats
 pub mod Opening

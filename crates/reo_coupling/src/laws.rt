@@ -1,6 +1,7 @@
 //! The step law, each law a function that does nothing.
 ghost use Rattle.reo_coupling.specs.Whole.{StandsFor, KeepsPart, KeepsEachPart};
 ghost use Rattle.reo_coupling.specs.Steps.{Begins, ReadsClock, SeesCell, SeesPort, SeesOffer, Commits, SetsCell, SetsGot, Answers};
+ghost use Rattle.reo_coupling.specs.PartySteps.{SetsPut, MakesOffer, SeesState, SeesGot, Clears, PartyKeeps};
 ghost use Rattle.reo_coupling.specs.Seats.{KeepsTheRule, SplittingKeepsTheRule, JoiningKeepsTheRule};
 ghost use Rattle.reo_coupling.specs.Opening.{OpensCoupled};
 ghost use Rattle.reo_coupling.specs.Sources.{TakesHaveSources};
@@ -67,6 +68,31 @@ pub fn answer_keeps()
     ensures parts { KeepsEachPart Answers }
     ensures whole { KeepsPart Answers StandsFor }
     ensures seats { KeepsTheRule Answers }
+{}
+
+/// Where a party stores the value of its next put, what the words stand for is kept.
+pub fn set_put_keeps()
+    ensures { PartyKeeps SetsPut }
+{}
+
+/// Where a party opens a call, it is kept.
+pub fn offer_keeps()
+    ensures { PartyKeeps MakesOffer }
+{}
+
+/// Where a party reads the state word of a port, it is kept.
+pub fn see_state_keeps()
+    ensures { PartyKeeps SeesState }
+{}
+
+/// Where a party reads the datum of its answered call, it is kept.
+pub fn see_got_keeps()
+    ensures { PartyKeeps SeesGot }
+{}
+
+/// Where a party collects a call, it is kept.
+pub fn clear_keeps()
+    ensures { PartyKeeps Clears }
 {}
 
 /// Where the root gives away the seat of a region, the rule is kept.
