@@ -13,6 +13,8 @@ pub mod PortStores
 pub mod PortCommit
 pub mod EachPart
 pub mod Fresh
+pub mod Places
+pub mod SeatKinds
 pub mod Seating
 pub mod Opening
 pub mod Numbers

@@ -10,7 +10,10 @@ use Rattle.reo_fabric.specs.Fabric.{IsLawfulFabric, first_state}
 use Rattle.reo_fabric.specs.Entry.{at_place}
 use Rattle.reo_fabric.specs.Reading.{cell_word}
 use Rattle.reo_fabric.specs.Laws.{AreValues}
+use Rattle.reo_coupling.specs.declared.view.PartyView.{PartyView}
 use Rattle.reo_coupling.specs.declared.view.RegionView.{RegionView}
+use Rattle.reo_coupling.specs.declared.view.RootView.{RootView}
+use Rattle.reo_coupling.specs.declared.view.Mark.{Mark}
 use Rattle.reo_coupling.specs.declared.view.View.{View}
 use Rattle.reo_coupling.specs.declared.view.Mark.TheVariants.{Fresh}
 use Rattle.reo_coupling.specs.declared.view.View.TheVariants as seat
@@ -21,7 +24,7 @@ use Rattle.reo_coupling.specs.Ports.{taken_at}
 use Rattle.reo_coupling.specs.PortParts.{known_at, calls_of, port_now}
 use Rattle.reo_coupling.specs.declared.view.Call.{Call}
 use Rattle.reo_value.specs.declared.value.Value.{Value}
-use Rattle.reo_coupling.specs.Seats.{moment_of, fresh_region, mark_at, MarkTells, SeatTells, SeatsTell}
+use Rattle.reo_coupling.specs.Seats.{moment_of, fresh_region, region_name, party_name, MarkTells, KindTells, SeatsTell}
 use Rattle.reo_coupling.specs.Opening.{first_words, first_root, OpensCoupled}
 use Rattle.reo_coupling.proofs.Lists.{cleared_few}
 use Rattle.reo_coupling.proofs.OnePort.{fresh_stands}
@@ -121,26 +124,44 @@ module _ (setting : Setting) where
         no_value : (port : ℕ) (value : Value) → at_place [] port ≡ Some value → ⊥
         no_value port value due = cc
 
-  fresh_at : (region : ℕ) → region < setting.fabric.regions → mark_at (first_root setting) region ≡ Fresh
-  fresh_at region within = get_or-replicate setting.fabric.regions region Fresh Fresh within
-
-  first_seats : (id : ℕ) (view : View) → slice_get (seat.Root (first_root setting) ∷ []) id ≡ Some view → SeatTells setting first_book (first_root setting) (λ r. 0) id view
-  first_seats zero view found = subst (SeatTells setting first_book (first_root setting) (λ r. 0) 0) (same_Some _ _ found) refl
-  first_seats (suc id) view found = absurd (no_more view found)
+  no_seat : (id : ℕ) {P : Type 0} (view : View) → ((root : RootView) → seat.Root root ≡ view → ⊥) → slice_get (seat.Root (first_root setting) ∷ []) id ≡ Some view → P
+  no_seat zero view no_root found = absurd (no_root (first_root setting) (same_Some _ _ found))
+  no_seat (suc id) view no_root found = absurd (no_more view found)
     where
       no_more : (v : View) → ◌≡◌ {A = Option View} None (Some v) → ⊥
       no_more v is = cc
 
-  first_tells : SeatsTell setting first_book (seat.Root (first_root setting) ∷ [])
+  only_root : (id : ℕ) (view : RootView) → slice_get (seat.Root (first_root setting) ∷ []) id ≡ Some (seat.Root view) → id ≡ 0
+  only_root zero view found = refl
+  only_root (suc id) view found = absurd (no_more (seat.Root view) found)
+    where
+      no_more : (v : View) → ◌≡◌ {A = Option View} None (Some v) → ⊥
+      no_more v is = cc
+
+  no_region : (view : RegionView) (root : RootView) → seat.Root root ≡ seat.Region view → ⊥
+  no_region view root e = cc
+
+  no_party : (view : PartyView) (root : RootView) → seat.Root root ≡ seat.Party view → ⊥
+  no_party view root e = cc
+
+  all_fresh : {W : Type 0} (wrap : W → View) (name : W → ℕ) (fresh : ℕ → W) (count : ℕ) → ((view : W) (root : RootView) → seat.Root root ≡ wrap view → ⊥)
+      → KindTells wrap name fresh count (replicate count Fresh) fresh (seat.Root (first_root setting) ∷ [])
+  all_fresh {W} wrap name fresh count no_root = record {
+    seat_of = λ n. 0;
+    all = length-replicate {A = Mark W} count Fresh;
+    each = λ number within. subst (MarkTells wrap fresh fresh (seat.Root (first_root setting) ∷ []) (λ n. 0) number) (sym (get_or-replicate count number Fresh Fresh within)) refl;
+    seats = λ id view found. no_seat id (wrap view) (no_root view) found;
+  }
+
+  first_tells : SeatsTell setting first_book fresh_party (seat.Root (first_root setting) ∷ [])
   unfolding first_book
   first_tells = record {
     root = first_root setting;
-    seat_of = λ r. 0;
     first = refl;
+    only = only_root;
     limit = refl;
-    regions = length-replicate setting.fabric.regions Fresh;
-    marks = λ region within. subst (MarkTells setting first_book (seat.Root (first_root setting) ∷ []) (λ r. 0) region) (sym (fresh_at region within)) refl;
-    seats = first_seats;
+    regions = all_fresh seat.Region region_name (fresh_region setting.limit) setting.fabric.regions no_region;
+    parties = all_fresh seat.Party party_name fresh_party setting.fabric.parties no_party;
   }
 
 pub opens_coupled : OpensCoupled

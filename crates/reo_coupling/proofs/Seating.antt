@@ -1,16 +1,20 @@
--- Seats: one view changes, or one is added.
-use Rattle.std.proofs.Common.{◌≡◌, ℕ, zero, suc, ◌<◌, ◌⊎◌, inl, inr, ⊎_elim, cond, List, [], ◌∷◌, ◌++◌, length, set, slice_get, nat_eq, Option, Some, None, refl, sym, ap, ◌∙◌, subst, arith, length-set, get_or-set_same, get_or-set_other}
-use Rattle.std.proofs.lemmas.Bool.{cases_eq, eq-eqb, ne_eqb}
+-- Seats: one view changes, one seat is given away, or one comes home.
+use Rattle.std.proofs.Common.{◌≡◌, ℕ, ◌<◌, ◌⊎◌, inl, inr, ⊎_elim, List, [], ◌∷◌, ◌++◌, length, set, slice_get, Some, refl, sym, ap, ◌∙◌, subst}
 use Rattle.std.proofs.lemmas.Option.{same_Some, slice_get_within}
+use Rattle.reo_fabric.specs.declared.entry.Entry.{Entry}
+use Rattle.reo_coupling.specs.declared.view.PartyView.{PartyView}
 use Rattle.reo_coupling.specs.declared.view.RegionView.{RegionView}
 use Rattle.reo_coupling.specs.declared.view.RootView.{RootView}
-use Rattle.reo_coupling.specs.declared.view.Mark.{Mark}
 use Rattle.reo_coupling.specs.declared.view.Mark.TheVariants.{Fresh, Out, Home}
 use Rattle.reo_coupling.specs.declared.view.View.{View}
 use Rattle.reo_coupling.specs.declared.view.View.TheVariants as seat
 use Rattle.reo_coupling.specs.Moment.{Setting, Moment}
+use Rattle.reo_coupling.specs.PortViews.{fresh_party}
 use Rattle.reo_coupling.specs.Whole.{StandsFor, KeepsPart, KeepsEachPart}
-use Rattle.reo_coupling.specs.Seats.{moment_of, fresh_region, mark_at, after_split, after_join, with_view, MarkTells, IsTheSeat, SeatTells, SeatsTell, KeepsTheRule, SplittingKeepsTheRule, JoiningKeepsTheRule}
+use Rattle.reo_coupling.specs.PartySteps.{PartyKeeps}
+use Rattle.reo_coupling.specs.Seats.{moment_of, fresh_region, region_name, party_name, mark_at, party_mark_at, with_view, with_party, KindTells, SeatsTell, KeepsTheRule, PartyKeepsTheRule, after_split, after_party_split, after_join, after_party_join, SplittingKeepsTheRule, PartySplittingKeepsTheRule, JoiningKeepsTheRule, PartyJoiningKeepsTheRule}
+use Rattle.reo_coupling.proofs.Places.{get_set, set_here, set_else, get_longer, get_last, get_more}
+use Rattle.reo_coupling.proofs.SeatKinds.{SameSeats, same_set, same_more, same_both, member_here, member_else, kind_stays, kind_steps, kind_splits, kind_joins}
 
 -- a step that keeps each part keeps the whole
 pub whole : (Step : Setting → ℕ → Moment → Moment → Type 0) → KeepsEachPart Step → KeepsPart Step StandsFor
@@ -32,353 +36,262 @@ whole Step each setting region before after within stands step = record {
   parties = each.of_ports.parties setting region before after within stands step;
 }
 
-module _ {A : Type 0} where
-  no_some : (y : A) → ◌≡◌ {A = Option A} None (Some y) → ⊥
-  no_some y is = cc
+-- seats of different kinds have different views
+region_injective : (a b : RegionView) → seat.Region a ≡ seat.Region b → a ≡ b
+region_injective a b e = cc
 
-  pub get_set : (xs : List A) (i j : ℕ) (x y : A) → slice_get (set xs i x) j ≡ Some y → ((j ≡ i) × (x ≡ y)) ⊎ ((j ≡ i → ⊥) × (slice_get xs j ≡ Some y))
-  get_set [] i j x y found = absurd (no_some y found)
-  get_set (z ∷ xs) zero zero x y found = inl (refl, same_Some x y found)
-  get_set (z ∷ xs) zero (suc j) x y found = inr ((λ is. omega arith), found)
-  get_set (z ∷ xs) (suc i) zero x y found = inr ((λ is. omega arith), found)
-  get_set (z ∷ xs) (suc i) (suc j) x y found = ⊎_elim (λ here. inl (ap suc here.0, here.1)) (λ other. let ne = other.0 in inr ((λ is. ne (omega arith)), other.1)) (get_set xs i j x y found)
+party_injective : (a b : PartyView) → seat.Party a ≡ seat.Party b → a ≡ b
+party_injective a b e = cc
 
-  pub set_here : (xs : List A) (i : ℕ) (x : A) → i < length xs → slice_get (set xs i x) i ≡ Some x
-  set_here [] i x within = absurd (omega arith)
-  set_here (z ∷ xs) zero x within = refl
-  set_here (z ∷ xs) (suc i) x within = set_here xs i x (omega arith)
+root_injective : (a b : RootView) → seat.Root a ≡ seat.Root b → a ≡ b
+root_injective a b e = cc
 
-  pub set_else : (xs : List A) (i j : ℕ) (x : A) → (j ≡ i → ⊥) → slice_get (set xs i x) j ≡ slice_get xs j
-  set_else [] i j x ne = refl
-  set_else (z ∷ xs) zero zero x ne = absurd (ne refl)
-  set_else (z ∷ xs) zero (suc j) x ne = refl
-  set_else (z ∷ xs) (suc i) zero x ne = refl
-  set_else (z ∷ xs) (suc i) (suc j) x ne = set_else xs i j x (λ is. ne (ap suc is))
+region_no_party : (a : RegionView) (b : PartyView) → seat.Region a ≡ seat.Party b → ⊥
+region_no_party a b e = cc
 
-  pub get_longer : (xs ys : List A) (i : ℕ) (x : A) → slice_get xs i ≡ Some x → slice_get (xs ++ ys) i ≡ Some x
-  get_longer [] ys i x found = absurd (no_some _ found)
-  get_longer (z ∷ xs) ys zero x found = found
-  get_longer (z ∷ xs) ys (suc i) x found = get_longer xs ys i x found
+party_no_region : (a : PartyView) (b : RegionView) → seat.Party a ≡ seat.Region b → ⊥
+party_no_region a b e = cc
 
-  pub get_last : (xs : List A) (x : A) → slice_get (xs ++ x ∷ []) (length xs) ≡ Some x
-  get_last [] x = refl
-  get_last (z ∷ xs) x = get_last xs x
+root_no_region : (a : RootView) (b : RegionView) → seat.Root a ≡ seat.Region b → ⊥
+root_no_region a b e = cc
 
-  pub get_more : (xs : List A) (x y : A) (i : ℕ) → slice_get (xs ++ x ∷ []) i ≡ Some y → (slice_get xs i ≡ Some y) ⊎ ((i ≡ length xs) × (x ≡ y))
-  get_more [] x y zero found = inr (refl, same_Some x y found)
-  get_more [] x y (suc i) found = absurd (no_some _ found)
-  get_more (z ∷ xs) x y zero found = inl found
-  get_more (z ∷ xs) x y (suc i) found = ⊎_elim (λ there. inl there) (λ last. inr (ap suc last.0, last.1)) (get_more xs x y i found)
+root_no_party : (a : RootView) (b : PartyView) → seat.Root a ≡ seat.Party b → ⊥
+root_no_party a b e = cc
+
+region_no_root : (a : RegionView) (b : RootView) → seat.Region a ≡ seat.Root b → ⊥
+region_no_root a b e = cc
+
+party_no_root : (a : PartyView) (b : RootView) → seat.Party a ≡ seat.Root b → ⊥
+party_no_root a b e = cc
+
+spent_no_region : (b : RegionView) → seat.Spent ≡ seat.Region b → ⊥
+spent_no_region b e = cc
+
+spent_no_party : (b : PartyView) → seat.Spent ≡ seat.Party b → ⊥
+spent_no_party b e = cc
+
+spent_no_root : (b : RootView) → seat.Spent ≡ seat.Root b → ⊥
+spent_no_root b e = cc
 
 pub view_here : (book : ℕ → RegionView) (view : RegionView) (region : ℕ) → region ≡ view.cells.region → with_view book view region ≡ view
-view_here book view region is = ap (λ b. cond b view (book region)) (eq-eqb region view.cells.region is)
+view_here book view region is = member_here region_name book view region is
 
 pub view_else : (book : ℕ → RegionView) (view : RegionView) (region : ℕ) → (region ≡ view.cells.region → ⊥) → with_view book view region ≡ book region
-view_else book view region ne = ap (λ b. cond b view (book region)) (ne_eqb region view.cells.region ne)
+view_else book view region ne = member_else region_name book view region ne
 
--- one seat's view changes, and that of its region in the book with it
-module _ (setting : Setting) (book : ℕ → RegionView) (views : List View) (id : ℕ) (old new : RegionView) (tells : SeatsTell setting book views) (found : slice_get views id ≡ Some (seat.Region old))
-    (same : new.cells.region ≡ old.cells.region) (named : (r : ℕ) → r < setting.fabric.regions → (book r).cells.region ≡ r) where
-  pub the_seat : IsTheSeat setting book tells.root tells.seat_of id old
-  the_seat = tells.seats id (seat.Region old) found
+pub party_here : (folk : ℕ → PartyView) (view : PartyView) (party : ℕ) → party ≡ view.party → with_party folk view party ≡ view
+party_here folk view party is = member_here party_name folk view party is
 
-  within : id < length views
-  within = slice_get_within views id (seat.Region old) found
+pub party_else : (folk : ℕ → PartyView) (view : PartyView) (party : ℕ) → (party ≡ view.party → ⊥) → with_party folk view party ≡ folk party
+party_else folk view party ne = member_else party_name folk view party ne
 
-  not_root : (0 ≡ id) → ⊥
-  not_root is =
-      let both : seat.Root tells.root ≡ seat.Region old = same_Some _ _ (sym tells.first ∙ (ap (slice_get views) is ∙ found)) in
-      cc
+module _ (setting : Setting) (book : ℕ → RegionView) (folk : ℕ → PartyView) (views : List View) (tells : SeatsTell setting book folk views) where
+  -- the root's seat is another than this one
+  root_stays : (id : ℕ) (old new : View) → slice_get views id ≡ Some old → ((view : RootView) → old ≡ seat.Root view → ⊥) → slice_get (set views id new) 0 ≡ Some (seat.Root tells.root)
+  root_stays id old new found no_root =
+      set_else views id 0 new (λ is. no_root tells.root (same_Some old (seat.Root tells.root) (sym found ∙ (ap (slice_get views) (sym is) ∙ tells.first)))) ∙ tells.first
 
-  marks_after : (region : ℕ) → region < setting.fabric.regions → (mark : Mark RegionView) → mark_at tells.root region ≡ mark → MarkTells setting book views tells.seat_of region mark
-      → MarkTells setting (with_view book new) (set views id (seat.Region new)) tells.seat_of region mark
-  marks_after region inside Fresh is told =
-      view_else book new region (λ mine.
-      let marked : mark_at tells.root region ≡ Out = ap (mark_at tells.root) (mine ∙ same) ∙ the_seat.out in
-      clash (sym is ∙ marked)) ∙ told
-    where
-      clash : ◌≡◌ {A = Mark RegionView} Fresh Out → ⊥
-      clash e = cc
-  marks_after region inside (Home view) is told =
-      view_else book new region (λ mine.
-      let marked : mark_at tells.root region ≡ Out = ap (mark_at tells.root) (mine ∙ same) ∙ the_seat.out in
-      clash (sym is ∙ marked)) ∙ told
-    where
-      clash : ◌≡◌ {A = Mark RegionView} (Home view) Out → ⊥
-      clash e = cc
-  marks_after region inside Out is told =
-      ⊎_elim
-      (λ mine.
-      let here : tells.seat_of region ≡ id = ap tells.seat_of (mine ∙ same) ∙ the_seat.only in
-      ap (slice_get (set views id (seat.Region new))) here ∙ (set_here views id (seat.Region new) within ∙ ap (λ (v : RegionView). Some (seat.Region v)) (sym (view_here book new region mine))))
-      (λ ne.
-      let elsewhere : tells.seat_of region ≡ id → ⊥ =
-      λ here.
-      let both : seat.Region (book region) ≡ seat.Region old = same_Some _ _ (sym told ∙ (ap (slice_get views) here ∙ found)) in
-      let view : book region ≡ old = the_view both in
-      ne (sym (named region inside) ∙ (ap (λ (v : RegionView). v.cells.region) view ∙ sym same)) in
-      set_else views id (tells.seat_of region) (seat.Region new) elsewhere ∙ (told ∙ ap (λ (v : RegionView). Some (seat.Region v)) (sym (view_else book new region ne))))
-      (cases_eq region new.cells.region)
-    where
-      the_view : {a b : RegionView} → seat.Region a ≡ seat.Region b → a ≡ b
-      the_view e = cc
+  only_stays : (id : ℕ) (new : View) → ((view : RootView) → new ≡ seat.Root view → ⊥) → (j : ℕ) (view : RootView) → slice_get (set views id new) j ≡ Some (seat.Root view) → j ≡ 0
+  only_stays id new no_root j view there = ⊎_elim (λ here. absurd (no_root view here.1)) (λ other. tells.only j view other.1) (get_set views id j new (seat.Root view) there)
 
-  seats_after : (j : ℕ) (view : View) → (j ≡ id → ⊥) → slice_get views j ≡ Some view → SeatTells setting book tells.root tells.seat_of j view → SeatTells setting (with_view book new) tells.root tells.seat_of j view
-  seats_after j (seat.Root view) ne there told = told
-  seats_after j seat.Spent ne there told = tt
-  seats_after j (seat.Region view) ne there told = record {
-    within = told.within;
-    only = told.only;
-    known =
-        view_else book new view.cells.region (λ mine. ne (sym told.only ∙ (ap tells.seat_of (mine ∙ same) ∙ the_seat.only)))
-        ∙ told.known;
-    out = told.out;
-  }
-
-  pub seat_steps : SeatsTell setting (with_view book new) (set views id (seat.Region new))
-  seat_steps = record {
+  pub region_steps : (id : ℕ) (old new : RegionView) → slice_get views id ≡ Some (seat.Region old) → new.cells.region ≡ old.cells.region → ((r : ℕ) → r < setting.fabric.regions → (book r).cells.region ≡ r)
+      → SeatsTell setting (with_view book new) folk (set views id (seat.Region new))
+  region_steps id old new found same named = record {
     root = tells.root;
-    seat_of = tells.seat_of;
-    first = set_else views id 0 (seat.Region new) not_root ∙ tells.first;
+    first = root_stays id (seat.Region old) (seat.Region new) found (region_no_root old);
+    only = only_stays id (seat.Region new) (region_no_root new);
     limit = tells.limit;
-    regions = tells.regions;
-    marks = λ region inside. marks_after region inside (mark_at tells.root region) refl (tells.marks region inside);
-    seats = λ j view there.
-        ⊎_elim
-        (λ here. subst (λ v. SeatTells setting (with_view book new) tells.root tells.seat_of j v) here.1 (record {
-          within = subst (λ r. r < setting.fabric.regions) (sym same) the_seat.within;
-          only = ap tells.seat_of same ∙ (the_seat.only ∙ sym here.0);
-          known = view_here book new new.cells.region refl;
-          out = ap (mark_at tells.root) same ∙ the_seat.out;
-        }))
-        (λ other. seats_after j view other.0 other.1 (tells.seats j view other.1))
-        (get_set views id j (seat.Region new) view there);
+    regions = kind_steps seat.Region region_name (fresh_region setting.limit) setting.fabric.regions region_injective tells.root.regions book views tells.regions id old new found same named;
+    parties = kind_stays seat.Party party_name fresh_party setting.fabric.parties party_injective tells.root.parties folk views tells.parties (set views id (seat.Region new))
+        (same_set seat.Party views id (seat.Region old) (seat.Region new) found (region_no_party old) (region_no_party new));
   }
+
+  pub party_steps : (id : ℕ) (old new : PartyView) → slice_get views id ≡ Some (seat.Party old) → new.party ≡ old.party → ((p : ℕ) → p < setting.fabric.parties → (folk p).party ≡ p)
+      → SeatsTell setting book (with_party folk new) (set views id (seat.Party new))
+  party_steps id old new found same named = record {
+    root = tells.root;
+    first = root_stays id (seat.Party old) (seat.Party new) found (party_no_root old);
+    only = only_stays id (seat.Party new) (party_no_root new);
+    limit = tells.limit;
+    regions = kind_stays seat.Region region_name (fresh_region setting.limit) setting.fabric.regions region_injective tells.root.regions book views tells.regions (set views id (seat.Party new))
+        (same_set seat.Region views id (seat.Party old) (seat.Party new) found (party_no_region old) (party_no_region new));
+    parties = kind_steps seat.Party party_name fresh_party setting.fabric.parties party_injective tells.root.parties folk views tells.parties id old new found same named;
+  }
+
+  -- the root's seat changes, and another is added
+  module _ (id : ℕ) (root : RootView) (found : slice_get views id ≡ Some (seat.Root root)) where
+    id_is : id ≡ 0
+    id_is = tells.only id root found
+
+    root_is : tells.root ≡ root
+    root_is = root_injective tells.root root (same_Some _ _ (sym tells.first ∙ (ap (slice_get views) (sym id_is) ∙ found)))
+
+    set_first : (new : RootView) → slice_get (set views id (seat.Root new)) 0 ≡ Some (seat.Root new)
+    set_first new = ap (slice_get (set views id (seat.Root new))) (sym id_is) ∙ set_here views id (seat.Root new) (slice_get_within views id (seat.Root root) found)
+
+    set_only : (new : RootView) (j : ℕ) (view : RootView) → slice_get (set views id (seat.Root new)) j ≡ Some (seat.Root view) → j ≡ 0
+    set_only new j view there = ⊎_elim (λ here. here.0 ∙ id_is) (λ other. tells.only j view other.1) (get_set views id j (seat.Root new) (seat.Root view) there)
+
+    of_regions : (new : RootView) → SameSeats seat.Region views (set views id (seat.Root new))
+    of_regions new = same_set seat.Region views id (seat.Root root) (seat.Root new) found (root_no_region root) (root_no_region new)
+
+    of_parties : (new : RootView) → SameSeats seat.Party views (set views id (seat.Root new))
+    of_parties new = same_set seat.Party views id (seat.Root root) (seat.Root new) found (root_no_party root) (root_no_party new)
+
+    more_only : (new : RootView) (added : View) → ((view : RootView) → added ≡ seat.Root view → ⊥) → (j : ℕ) (view : RootView) → slice_get (set views id (seat.Root new) ++ added ∷ []) j ≡ Some (seat.Root view) → j ≡ 0
+    more_only new added no_root j view there =
+        ⊎_elim (λ older. set_only new j view older) (λ last. absurd (no_root view last.1)) (get_more (set views id (seat.Root new)) added (seat.Root view) j there)
+
+    limit_is : root.limit ≡ setting.limit
+    limit_is = ap (λ (m : RootView). m.limit) (sym root_is) ∙ tells.limit
+
+    pub region_splits : (region : ℕ) → region < setting.fabric.regions → mark_at root region ≡ Fresh
+        → SeatsTell setting book folk (set views id (seat.Root (after_split root region)) ++ seat.Region (fresh_region root.limit region) ∷ [])
+    region_splits region inside fresh = record {
+      root = after_split root region;
+      first = get_longer (set views id (seat.Root (after_split root region))) _ 0 _ (set_first (after_split root region));
+      only = more_only (after_split root region) (seat.Region (fresh_region root.limit region)) (region_no_root (fresh_region root.limit region));
+      limit = limit_is;
+      regions = subst
+          (λ (m : RootView). KindTells seat.Region region_name (fresh_region setting.limit) setting.fabric.regions (set m.regions region Out) book (set views id (seat.Root (after_split root region)) ++ seat.Region (fresh_region root.limit region) ∷ []))
+          root_is
+          (kind_splits seat.Region region_name (fresh_region setting.limit) setting.fabric.regions region_injective tells.root.regions book views tells.regions region (length (set views id (seat.Root (after_split root region))))
+          (set views id (seat.Root (after_split root region)) ++ seat.Region (fresh_region root.limit region) ∷ []) inside (ap (λ (m : RootView). mark_at m region) root_is ∙ fresh)
+          (λ j view there. get_longer (set views id (seat.Root (after_split root region))) _ j (seat.Region view) ((of_regions (after_split root region)).kept j view there))
+          (λ j view there.
+          ⊎_elim (λ older. inl ((of_regions (after_split root region)).came j view older)) (λ last. inr (last.0, ap (λ n. seat.Region (fresh_region n region)) (sym limit_is) ∙ last.1))
+          (get_more (set views id (seat.Root (after_split root region))) (seat.Region (fresh_region root.limit region)) (seat.Region view) j there))
+          (get_last (set views id (seat.Root (after_split root region))) _ ∙ ap (λ n. Some (seat.Region (fresh_region n region))) limit_is) refl);
+      parties = subst
+          (λ (m : RootView). KindTells seat.Party party_name fresh_party setting.fabric.parties m.parties folk (set views id (seat.Root (after_split root region)) ++ seat.Region (fresh_region root.limit region) ∷ []))
+          root_is
+          (kind_stays seat.Party party_name fresh_party setting.fabric.parties party_injective tells.root.parties folk views tells.parties _
+          (same_both seat.Party views (set views id (seat.Root (after_split root region))) _ (of_parties (after_split root region))
+          (same_more seat.Party (set views id (seat.Root (after_split root region))) (seat.Region (fresh_region root.limit region)) (region_no_party (fresh_region root.limit region)))));
+    }
+
+    pub party_splits : (party : ℕ) → party < setting.fabric.parties → party_mark_at root party ≡ Fresh → SeatsTell setting book folk (set views id (seat.Root (after_party_split root party)) ++ seat.Party (fresh_party party) ∷ [])
+    party_splits party inside fresh = record {
+      root = after_party_split root party;
+      first = get_longer (set views id (seat.Root (after_party_split root party))) _ 0 _ (set_first (after_party_split root party));
+      only = more_only (after_party_split root party) (seat.Party (fresh_party party)) (party_no_root (fresh_party party));
+      limit = limit_is;
+      regions = subst
+          (λ (m : RootView). KindTells seat.Region region_name (fresh_region setting.limit) setting.fabric.regions m.regions book (set views id (seat.Root (after_party_split root party)) ++ seat.Party (fresh_party party) ∷ []))
+          root_is
+          (kind_stays seat.Region region_name (fresh_region setting.limit) setting.fabric.regions region_injective tells.root.regions book views tells.regions _
+          (same_both seat.Region views (set views id (seat.Root (after_party_split root party))) _ (of_regions (after_party_split root party))
+          (same_more seat.Region (set views id (seat.Root (after_party_split root party))) (seat.Party (fresh_party party)) (party_no_region (fresh_party party)))));
+      parties = subst
+          (λ (m : RootView). KindTells seat.Party party_name fresh_party setting.fabric.parties (set m.parties party Out) folk (set views id (seat.Root (after_party_split root party)) ++ seat.Party (fresh_party party) ∷ []))
+          root_is
+          (kind_splits seat.Party party_name fresh_party setting.fabric.parties party_injective tells.root.parties folk views tells.parties party (length (set views id (seat.Root (after_party_split root party))))
+          (set views id (seat.Root (after_party_split root party)) ++ seat.Party (fresh_party party) ∷ []) inside (ap (λ (m : RootView). party_mark_at m party) root_is ∙ fresh)
+          (λ j view there. get_longer (set views id (seat.Root (after_party_split root party))) _ j (seat.Party view) ((of_parties (after_party_split root party)).kept j view there))
+          (λ j view there.
+          ⊎_elim (λ older. inl ((of_parties (after_party_split root party)).came j view older)) (λ last. inr last)
+          (get_more (set views id (seat.Root (after_party_split root party))) (seat.Party (fresh_party party)) (seat.Party view) j there))
+          (get_last (set views id (seat.Root (after_party_split root party))) _) refl);
+    }
+
+    -- a seat comes home and is spent
+    module _ (other : ℕ) (new : RootView) (gone : View) (at_other : slice_get views other ≡ Some gone) (no_root : (view : RootView) → gone ≡ seat.Root view → ⊥) where
+      apart : other ≡ id → ⊥
+      apart is = no_root root (same_Some _ _ (sym at_other ∙ (ap (slice_get views) is ∙ found)))
+
+      still_there : slice_get (set views id (seat.Root new)) other ≡ Some gone
+      still_there = set_else views id other (seat.Root new) apart ∙ at_other
+
+      home_first : slice_get (set (set views id (seat.Root new)) other seat.Spent) 0 ≡ Some (seat.Root new)
+      home_first = set_else (set views id (seat.Root new)) other 0 seat.Spent (λ is. apart (sym is ∙ sym id_is)) ∙ set_first new
+
+      home_only : (j : ℕ) (view : RootView) → slice_get (set (set views id (seat.Root new)) other seat.Spent) j ≡ Some (seat.Root view) → j ≡ 0
+      home_only j view there = ⊎_elim (λ here. absurd (spent_no_root view here.1)) (λ rest. set_only new j view rest.1) (get_set (set views id (seat.Root new)) other j seat.Spent (seat.Root view) there)
+
+    pub region_joins : (other : ℕ) (view : RegionView) → slice_get views other ≡ Some (seat.Region view) → ((r : ℕ) → r < setting.fabric.regions → (book r).cells.region ≡ r)
+        → SeatsTell setting book folk (set (set views id (seat.Root (after_join root view))) other seat.Spent)
+    region_joins other view at_other named = record {
+      root = after_join root view;
+      first = home_first other (after_join root view) (seat.Region view) at_other (region_no_root view);
+      only = home_only other (after_join root view) (seat.Region view) at_other (region_no_root view);
+      limit = limit_is;
+      regions = subst
+          (λ (m : RootView). KindTells seat.Region region_name (fresh_region setting.limit) setting.fabric.regions (set m.regions view.cells.region (Home view)) book (set (set views id (seat.Root (after_join root view))) other seat.Spent))
+          root_is
+          (kind_joins seat.Region region_name (fresh_region setting.limit) setting.fabric.regions region_injective tells.root.regions book views tells.regions other view
+          (set (set views id (seat.Root (after_join root view))) other seat.Spent) at_other named
+          (λ j v ne there. set_else (set views id (seat.Root (after_join root view))) other j seat.Spent ne ∙ (of_regions (after_join root view)).kept j v there)
+          (λ j v there.
+          ⊎_elim (λ here. absurd (spent_no_region v here.1)) (λ rest. (rest.0, (of_regions (after_join root view)).came j v rest.1)) (get_set (set views id (seat.Root (after_join root view))) other j seat.Spent (seat.Region v) there)));
+      parties = subst
+          (λ (m : RootView). KindTells seat.Party party_name fresh_party setting.fabric.parties m.parties folk (set (set views id (seat.Root (after_join root view))) other seat.Spent))
+          root_is
+          (kind_stays seat.Party party_name fresh_party setting.fabric.parties party_injective tells.root.parties folk views tells.parties _
+          (same_both seat.Party views (set views id (seat.Root (after_join root view))) _ (of_parties (after_join root view))
+          (same_set seat.Party (set views id (seat.Root (after_join root view))) other (seat.Region view) seat.Spent (still_there other (after_join root view) (seat.Region view) at_other (region_no_root view)) (region_no_party view) spent_no_party)));
+    }
+
+    pub party_joins : (other : ℕ) (view : PartyView) → slice_get views other ≡ Some (seat.Party view) → ((p : ℕ) → p < setting.fabric.parties → (folk p).party ≡ p)
+        → SeatsTell setting book folk (set (set views id (seat.Root (after_party_join root view))) other seat.Spent)
+    party_joins other view at_other named = record {
+      root = after_party_join root view;
+      first = home_first other (after_party_join root view) (seat.Party view) at_other (party_no_root view);
+      only = home_only other (after_party_join root view) (seat.Party view) at_other (party_no_root view);
+      limit = limit_is;
+      regions = subst
+          (λ (m : RootView). KindTells seat.Region region_name (fresh_region setting.limit) setting.fabric.regions m.regions book (set (set views id (seat.Root (after_party_join root view))) other seat.Spent))
+          root_is
+          (kind_stays seat.Region region_name (fresh_region setting.limit) setting.fabric.regions region_injective tells.root.regions book views tells.regions _
+          (same_both seat.Region views (set views id (seat.Root (after_party_join root view))) _ (of_regions (after_party_join root view))
+          (same_set seat.Region (set views id (seat.Root (after_party_join root view))) other (seat.Party view) seat.Spent (still_there other (after_party_join root view) (seat.Party view) at_other (party_no_root view)) (party_no_region view) spent_no_region)));
+      parties = subst
+          (λ (m : RootView). KindTells seat.Party party_name fresh_party setting.fabric.parties (set m.parties view.party (Home view)) folk (set (set views id (seat.Root (after_party_join root view))) other seat.Spent))
+          root_is
+          (kind_joins seat.Party party_name fresh_party setting.fabric.parties party_injective tells.root.parties folk views tells.parties other view
+          (set (set views id (seat.Root (after_party_join root view))) other seat.Spent) at_other named
+          (λ j v ne there. set_else (set views id (seat.Root (after_party_join root view))) other j seat.Spent ne ∙ (of_parties (after_party_join root view)).kept j v there)
+          (λ j v there.
+          ⊎_elim (λ here. absurd (spent_no_party v here.1)) (λ rest. (rest.0, (of_parties (after_party_join root view)).came j v rest.1)) (get_set (set views id (seat.Root (after_party_join root view))) other j seat.Spent (seat.Party v) there)));
+    }
 
 pub keeps_the_rule : (Step : Setting → ℕ → Moment → Moment → Type 0) → KeepsEachPart Step → KeepsTheRule Step
 keeps_the_rule Step each setting words later views id old new history rule found same step = record {
   history = history;
   book = with_view rule.book new;
   folk = rule.folk;
-  stands = whole Step each setting old.cells.region (moment_of words rule.history rule.book rule.folk) (moment_of later history (with_view rule.book new) rule.folk) (the_seat setting rule.book views id old new rule.tells found same rule.stands.named.regions).within
-      rule.stands step;
-  tells = seat_steps setting rule.book views id old new rule.tells found same rule.stands.named.regions;
+  stands = whole Step each setting old.cells.region (moment_of words rule.history rule.book rule.folk) (moment_of later history (with_view rule.book new) rule.folk) (rule.tells.regions.seats id old found).within rule.stands step;
+  tells = region_steps setting rule.book rule.folk views rule.tells id old new found same rule.stands.named.regions;
 }
 
--- the root gives away a seat
-module _ (setting : Setting) (book : ℕ → RegionView) (views : List View) (id region : ℕ) (root : RootView) (tells : SeatsTell setting book views) (found : slice_get views id ≡ Some (seat.Root root)) (inside : region < setting.fabric.regions)
-    (fresh : mark_at root region ≡ Fresh) where
-  id_is : id ≡ 0
-  id_is = tells.seats id (seat.Root root) found
-
-  root_is : tells.root ≡ root
-  root_is = the_root (same_Some _ _ (sym tells.first ∙ (ap (slice_get views) (sym id_is) ∙ found)))
-    where
-      the_root : {a b : RootView} → seat.Root a ≡ seat.Root b → a ≡ b
-      the_root e = cc
-
-  changed : List View
-  changed = set views id (seat.Root (after_split root region))
-
-  more : List View
-  more = changed ++ seat.Region (fresh_region root.limit region) ∷ []
-
-  seat_after : ℕ → ℕ
-  seat_after r = cond (nat_eq r region) (length changed) (tells.seat_of r)
-
-  seat_here : (r : ℕ) → r ≡ region → seat_after r ≡ length changed
-  unfolding seat_after
-  seat_here r is = ap (λ b. cond b (length changed) (tells.seat_of r)) (eq-eqb r region is)
-
-  seat_else : (r : ℕ) → (r ≡ region → ⊥) → seat_after r ≡ tells.seat_of r
-  unfolding seat_after
-  seat_else r ne = ap (λ b. cond b (length changed) (tells.seat_of r)) (ne_eqb r region ne)
-
-  mark_here : mark_at (after_split root region) region ≡ Out
-  mark_here = get_or-set_same root.regions region Out Fresh (omega (arith, ap (λ (m : RootView). length m.regions) root_is, tells.regions))
-
-  mark_else : (r : ℕ) → (r ≡ region → ⊥) → mark_at (after_split root region) r ≡ mark_at tells.root r
-  mark_else r ne = get_or-set_other root.regions region r Out Fresh ne ∙ ap (λ m. mark_at m r) (sym root_is)
-
-  not_fresh : {P : Type 0} (r : ℕ) → r ≡ region → mark_at tells.root r ≡ Out → P
-  not_fresh r is out =
-      let both : Fresh ≡ Out = sym fresh ∙ (ap (λ m. mark_at m region) (sym root_is) ∙ (ap (mark_at tells.root) (sym is) ∙ out)) in
-      absurd (clash both)
-    where
-      clash : ◌≡◌ {A = Mark RegionView} Fresh Out → ⊥
-      clash e = cc
-
-  here_in_views : id < length views
-  here_in_views = slice_get_within views id (seat.Root root) found
-
-  marks_else : (r : ℕ) → (r ≡ region → ⊥) → (mark : Mark RegionView) → MarkTells setting book views tells.seat_of r mark → MarkTells setting book more seat_after r mark
-  unfolding more changed
-  marks_else r ne Fresh told = told
-  marks_else r ne (Home view) told = told
-  marks_else r ne Out told =
-      let other : tells.seat_of r ≡ id → ⊥ =
-      λ here.
-      not_a_root (same_Some _ _ (sym found ∙ (ap (slice_get views) (sym here) ∙ told))) in
-      ap (slice_get more) (seat_else r ne) ∙ get_longer changed _ (tells.seat_of r) _ (set_else views id (tells.seat_of r) (seat.Root (after_split root region)) other ∙ told)
-    where
-      not_a_root : {a : RootView} {b : RegionView} → seat.Root a ≡ seat.Region b → ⊥
-      not_a_root e = cc
-
-  tells_else : (j : ℕ) (view : View) → SeatTells setting book tells.root tells.seat_of j view → SeatTells setting book (after_split root region) seat_after j view
-  tells_else j (seat.Root view) told = told
-  tells_else j seat.Spent told = tt
-  tells_else j (seat.Region view) told =
-      let ne : view.cells.region ≡ region → ⊥ = λ is. not_fresh view.cells.region is told.out in
-      record { within = told.within; only = seat_else view.cells.region ne ∙ told.only; known = told.known; out = mark_else view.cells.region ne ∙ told.out }
-
-  was_fresh : book region ≡ fresh_region setting.limit region
-  was_fresh = subst (MarkTells setting book views tells.seat_of region) (ap (λ m. mark_at m region) root_is ∙ fresh) (tells.marks region inside)
-
-  limit_is : root.limit ≡ setting.limit
-  limit_is = ap (λ (m : RootView). m.limit) (sym root_is) ∙ tells.limit
-
-  book_is : book region ≡ fresh_region root.limit region
-  book_is = was_fresh ∙ ap (λ n. fresh_region n region) (sym limit_is)
-
-  root_splits : SeatsTell setting book more
-  unfolding more changed
-  root_splits = record {
-    root = after_split root region;
-    seat_of = seat_after;
-    first = get_longer changed _ 0 _ (ap (slice_get changed) (sym id_is) ∙ set_here views id (seat.Root (after_split root region)) here_in_views);
-    limit = limit_is;
-    regions = length-set root.regions region Out ∙ (ap (λ (m : RootView). length m.regions) (sym root_is) ∙ tells.regions);
-    marks = λ r within.
-        ⊎_elim
-        (λ is.
-        subst (λ k. MarkTells setting book more seat_after k (mark_at (after_split root region) k)) (sym is)
-        (subst (MarkTells setting book more seat_after region) (sym mark_here)
-        (ap (slice_get more) (seat_here region refl) ∙ (get_last changed _ ∙ ap (λ (v : RegionView). Some (seat.Region v)) (sym book_is)))))
-        (λ ne. subst (MarkTells setting book more seat_after r) (sym (mark_else r ne)) (marks_else r ne (mark_at tells.root r) (tells.marks r within)))
-        (cases_eq r region);
-    seats = λ j view there.
-        ⊎_elim
-        (λ older.
-        ⊎_elim
-        (λ here. subst (SeatTells setting book (after_split root region) seat_after j) here.1 (here.0 ∙ id_is))
-        (λ other. tells_else j view (tells.seats j view other.1))
-        (get_set views id j (seat.Root (after_split root region)) view older))
-        (λ last. subst (SeatTells setting book (after_split root region) seat_after j) last.1 (record { within = inside; only = seat_here region refl ∙ sym last.0; known = book_is; out = mark_here }))
-        (get_more changed (seat.Region (fresh_region root.limit region)) view j there);
-  }
+pub party_keeps_the_rule : (Step : Setting → ℕ → Moment → Moment → Type 0) → PartyKeeps Step → PartyKeepsTheRule Step
+party_keeps_the_rule Step keeps setting words later views id old new rule found same step = record {
+  history = rule.history;
+  book = rule.book;
+  folk = with_party rule.folk new;
+  stands = keeps setting old.party (moment_of words rule.history rule.book rule.folk) (moment_of later rule.history rule.book (with_party rule.folk new)) (rule.tells.parties.seats id old found).within rule.stands step;
+  tells = party_steps setting rule.book rule.folk views rule.tells id old new found same rule.stands.parties;
+}
 
 pub splitting_keeps_the_rule : SplittingKeepsTheRule
-unfolding more changed
 splitting_keeps_the_rule setting words views id region root rule found inside fresh = record {
-  rule = record {
-    history = rule.history;
-    book = rule.book;
-    folk = rule.folk;
-    stands = rule.stands;
-    tells = root_splits setting rule.book views id region root rule.tells found inside fresh;
-  };
+  rule = record { history = rule.history; book = rule.book; folk = rule.folk; stands = rule.stands; tells = region_splits setting rule.book rule.folk views rule.tells id root found region inside fresh };
   same = refl;
 }
 
--- a seat comes home to the root
-module _ (setting : Setting) (book : ℕ → RegionView) (views : List View) (id other : ℕ) (root : RootView) (view : RegionView) (tells : SeatsTell setting book views) (at_root : slice_get views id ≡ Some (seat.Root root))
-    (at_other : slice_get views other ≡ Some (seat.Region view)) where
-  first_is : id ≡ 0
-  first_is = tells.seats id (seat.Root root) at_root
-
-  same_root : tells.root ≡ root
-  same_root = the_root (same_Some _ _ (sym tells.first ∙ (ap (slice_get views) (sym first_is) ∙ at_root)))
-    where
-      the_root : {a b : RootView} → seat.Root a ≡ seat.Root b → a ≡ b
-      the_root e = cc
-
-  its_seat : IsTheSeat setting book tells.root tells.seat_of other view
-  its_seat = tells.seats other (seat.Region view) at_other
-
-  apart : id ≡ other → ⊥
-  apart is = clash (same_Some _ _ (sym at_root ∙ (ap (slice_get views) is ∙ at_other)))
-    where
-      clash : {a : RootView} {b : RegionView} → seat.Root a ≡ seat.Region b → ⊥
-      clash e = cc
-
-  with_root : List View
-  with_root = set views id (seat.Root (after_join root view))
-
-  joined : List View
-  joined = set with_root other seat.Spent
-
-  root_within : id < length views
-  root_within = slice_get_within views id (seat.Root root) at_root
-
-  home_here : mark_at (after_join root view) view.cells.region ≡ Home view
-  home_here = get_or-set_same root.regions view.cells.region (Home view) Fresh (omega (arith, ap (λ (m : RootView). length m.regions) same_root, tells.regions, its_seat.within))
-
-  home_else : (r : ℕ) → (r ≡ view.cells.region → ⊥) → mark_at (after_join root view) r ≡ mark_at tells.root r
-  home_else r ne = get_or-set_other root.regions view.cells.region r (Home view) Fresh ne ∙ ap (λ m. mark_at m r) (sym same_root)
-
-  others_marks : (r : ℕ) → r < setting.fabric.regions → (r ≡ view.cells.region → ⊥) → ((k : ℕ) → k < setting.fabric.regions → (book k).cells.region ≡ k) → (mark : Mark RegionView) → MarkTells setting book views tells.seat_of r mark → MarkTells setting book joined tells.seat_of r mark
-  unfolding joined with_root
-  others_marks r within ne named Fresh told = told
-  others_marks r within ne named (Home v) told = told
-  others_marks r within ne named Out told =
-      let not_other : tells.seat_of r ≡ other → ⊥ = λ here.
-      ne (sym (named r within) ∙ ap (λ (v : RegionView). v.cells.region) (the_view (same_Some _ _ (sym told ∙ (ap (slice_get views) here ∙ at_other))))) in
-      let not_root : tells.seat_of r ≡ id → ⊥ = λ here. clash (same_Some _ _ (sym at_root ∙ (ap (slice_get views) (sym here) ∙ told))) in
-      set_else with_root other (tells.seat_of r) seat.Spent not_other ∙ (set_else views id (tells.seat_of r) (seat.Root (after_join root view)) not_root ∙ told)
-    where
-      the_view : {a b : RegionView} → seat.Region a ≡ seat.Region b → a ≡ b
-      the_view e = cc
-
-      clash : {a : RootView} {b : RegionView} → seat.Root a ≡ seat.Region b → ⊥
-      clash e = cc
-
-  others_seats : (j : ℕ) (v : View) → (j ≡ other → ⊥) → SeatTells setting book tells.root tells.seat_of j v → SeatTells setting book (after_join root view) tells.seat_of j v
-  others_seats j (seat.Root v) ne told = told
-  others_seats j seat.Spent ne told = tt
-  others_seats j (seat.Region v) ne told = record {
-    within = told.within;
-    only = told.only;
-    known = told.known;
-    out = home_else v.cells.region (λ is. ne (sym told.only ∙ (ap tells.seat_of is ∙ its_seat.only))) ∙ told.out;
-  }
-
-  joins : ((k : ℕ) → k < setting.fabric.regions → (book k).cells.region ≡ k) → SeatsTell setting book joined
-  unfolding joined with_root
-  joins named = record {
-    root = after_join root view;
-    seat_of = tells.seat_of;
-    first =
-        set_else with_root other 0 seat.Spent (λ is. apart (first_is ∙ is))
-        ∙ (ap (slice_get with_root) (sym first_is) ∙ set_here views id (seat.Root (after_join root view)) root_within);
-    limit = ap (λ (m : RootView). m.limit) (sym same_root) ∙ tells.limit;
-    regions = length-set root.regions view.cells.region (Home view) ∙ (ap (λ (m : RootView). length m.regions) (sym same_root) ∙ tells.regions);
-    marks = λ r within.
-        ⊎_elim
-        (λ is.
-        subst (λ k. MarkTells setting book joined tells.seat_of k (mark_at (after_join root view) k)) (sym is)
-        (subst (MarkTells setting book joined tells.seat_of view.cells.region) (sym home_here) its_seat.known))
-        (λ ne. subst (MarkTells setting book joined tells.seat_of r) (sym (home_else r ne)) (others_marks r within ne named (mark_at tells.root r) (tells.marks r within)))
-        (cases_eq r view.cells.region);
-    seats = λ j v there.
-        ⊎_elim
-        (λ spent. subst (SeatTells setting book (after_join root view) tells.seat_of j) spent.1 tt)
-        (λ others.
-        ⊎_elim
-        (λ here. subst (SeatTells setting book (after_join root view) tells.seat_of j) here.1 (here.0 ∙ first_is))
-        (λ older. others_seats j v others.0 (tells.seats j v older.1))
-        (get_set views id j (seat.Root (after_join root view)) v others.1))
-        (get_set with_root other j seat.Spent v there);
-  }
+pub party_splitting_keeps_the_rule : PartySplittingKeepsTheRule
+party_splitting_keeps_the_rule setting words views id party root rule found inside fresh = record {
+  rule = record { history = rule.history; book = rule.book; folk = rule.folk; stands = rule.stands; tells = party_splits setting rule.book rule.folk views rule.tells id root found party inside fresh };
+  same = refl;
+}
 
 pub joining_keeps_the_rule : JoiningKeepsTheRule
-unfolding joined with_root
 joining_keeps_the_rule setting words views id other root view rule at_root at_other = record {
-  rule = record {
-    history = rule.history;
-    book = rule.book;
-    folk = rule.folk;
-    stands = rule.stands;
-    tells = joins setting rule.book views id other root view rule.tells at_root at_other rule.stands.named.regions;
-  };
+  rule = record { history = rule.history; book = rule.book; folk = rule.folk; stands = rule.stands; tells = region_joins setting rule.book rule.folk views rule.tells id root at_root other view at_other rule.stands.named.regions };
+  same = refl;
+}
+
+pub party_joining_keeps_the_rule : PartyJoiningKeepsTheRule
+party_joining_keeps_the_rule setting words views id other root view rule at_root at_other = record {
+  rule = record { history = rule.history; book = rule.book; folk = rule.folk; stands = rule.stands; tells = party_joins setting rule.book rule.folk views rule.tells id root at_root other view at_other rule.stands.parties };
   same = refl;
 }

@@ -3,6 +3,7 @@ ghost use Rattle.reo_coupling.specs.Whole.{StandsFor, KeepsPart, KeepsEachPart};
 ghost use Rattle.reo_coupling.specs.Steps.{Begins, ReadsClock, SeesCell, SeesPort, SeesOffer, Commits, SetsCell, SetsGot, Answers};
 ghost use Rattle.reo_coupling.specs.PartySteps.{SetsPut, MakesOffer, SeesState, SeesGot, Clears, PartyKeeps};
 ghost use Rattle.reo_coupling.specs.Seats.{KeepsTheRule, SplittingKeepsTheRule, JoiningKeepsTheRule};
+ghost use Rattle.reo_coupling.specs.Seats.{PartyKeepsTheRule, PartySplittingKeepsTheRule, PartyJoiningKeepsTheRule};
 ghost use Rattle.reo_coupling.specs.Opening.{OpensCoupled};
 ghost use Rattle.reo_coupling.specs.Sources.{TakesHaveSources};
 ghost use Rattle.reo_coupling.specs.Laws.{NumbersStandOnce, OnlyCommitsChangeTheState};
@@ -72,37 +73,44 @@ pub fn answer_keeps()
 
 /// Where a party stores the value of its next put, what the words stand for is kept.
 pub fn set_put_keeps()
-    ensures { PartyKeeps SetsPut }
+    ensures whole { PartyKeeps SetsPut }
+    ensures seats { PartyKeepsTheRule SetsPut }
 {}
 
 /// Where a party opens a call, it is kept.
 pub fn offer_keeps()
-    ensures { PartyKeeps MakesOffer }
+    ensures whole { PartyKeeps MakesOffer }
+    ensures seats { PartyKeepsTheRule MakesOffer }
 {}
 
 /// Where a party reads the state word of a port, it is kept.
 pub fn see_state_keeps()
-    ensures { PartyKeeps SeesState }
+    ensures whole { PartyKeeps SeesState }
+    ensures seats { PartyKeepsTheRule SeesState }
 {}
 
 /// Where a party reads the datum of its answered call, it is kept.
 pub fn see_got_keeps()
-    ensures { PartyKeeps SeesGot }
+    ensures whole { PartyKeeps SeesGot }
+    ensures seats { PartyKeepsTheRule SeesGot }
 {}
 
 /// Where a party collects a call, it is kept.
 pub fn clear_keeps()
-    ensures { PartyKeeps Clears }
+    ensures whole { PartyKeeps Clears }
+    ensures seats { PartyKeepsTheRule Clears }
 {}
 
-/// Where the root gives away the seat of a region, the rule is kept.
+/// Where the root gives away the seat of a region or of a party, the rule is kept.
 pub fn splitting_keeps()
-    ensures { SplittingKeepsTheRule }
+    ensures regions { SplittingKeepsTheRule }
+    ensures parties { PartySplittingKeepsTheRule }
 {}
 
 /// Where a seat comes home to the root, the rule is kept.
 pub fn joining_keeps()
-    ensures { JoiningKeepsTheRule }
+    ensures regions { JoiningKeepsTheRule }
+    ensures parties { PartyJoiningKeepsTheRule }
 {}
 
 /// The rule holds of the first words.

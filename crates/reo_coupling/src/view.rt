@@ -113,11 +113,12 @@ pub enum Mark<W: Drop> {
     Home(W),
 }
 
-/// What the root knows: the limit, and how it stands with each region's seat.
+/// What the root knows: the limit, and how it stands with the seat of each region and of each party.
 #[derive(Drop)]
 pub struct RootView {
     pub limit: u64,
     pub regions: [Mark<RegionView>; 0],
+    pub parties: [Mark<PartyView>; 0],
 }
 
 /// What a seat knows.
@@ -125,6 +126,7 @@ pub struct RootView {
 pub enum View {
     Root(RootView),
     Region(RegionView),
+    Party(PartyView),
     /// The seat was joined into another.
     Spent,
 }
