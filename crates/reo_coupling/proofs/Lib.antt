@@ -21,3 +21,4 @@ pub mod Numbers
 pub mod Sources
 pub mod PartyFrames
 pub mod PartySteps
+pub mod Placed

@@ -24,7 +24,7 @@ use Rattle.reo_coupling.proofs.PortStores.{state_is_no_data, apart_state, apart_
 
 -- a port of the party, by what the party knows
 module _ (setting : Setting) (party : ℕ) (before : Moment) (stands : StandsFor setting before) (port : ℕ) (own : IsOwned setting.fabric party port) where
-  pub own_now : PortSpec → PortNow
+  unfoldable pub own_now : PortSpec → PortNow
   own_now spec = record (port_now setting before port spec) { known = known_of before party port; calls = (before.folk party).calls; taken = taken_at port (before.folk party).calls }
 
   pub own_stands : (spec : PortSpec) → slice_get setting.fabric.ports port ≡ Some spec → PortStands (own_now spec)
@@ -145,7 +145,7 @@ places_below port first (entry ∷ entries) = go (datum_at entry port) (λ k d l
     go None rest = rest
     go (Some v) rest = All-cons (λ (p : ℕ × Value). p.0 < first + length (entry ∷ entries)) (first, v) (places_of port (first + 1) entries) (omega arith) rest
 
-all_last : {A : Type 0} (P : A → Type 0) (xs : List A) (x : A) → All P (xs ++ x ∷ []) → P x
+pub all_last : {A : Type 0} (P : A → Type 0) (xs : List A) (x : A) → All P (xs ++ x ∷ []) → P x
 all_last P [] x all = All-head P x [] all
 all_last P (y ∷ xs) x all = all_last P xs x (All-tail P y (xs ++ x ∷ []) all)
 

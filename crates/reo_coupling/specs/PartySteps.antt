@@ -19,6 +19,11 @@ pub record IsOwned (fabric : Fabric) (party port : ℕ) : Type 0 where
   pub found : slice_get fabric.ports port ≡ Some spec
   pub owner : spec.owner ≡ Some party
 
+-- the party owns the put port
+pub record IsOwnedPut (fabric : Fabric) (party port : ℕ) : Type 0 where
+  pub own : IsOwned fabric party port
+  pub way : own.spec.way ≡ Put
+
 -- what a party knows of a port
 abbrev pub known_of : Moment → ℕ → ℕ → PortView
 known_of moment party port = port_of (moment.folk party) port
@@ -46,6 +51,11 @@ abbrev pub IsSetFor : Way → Option Value → Type 0
 IsSetFor Put None = ⊥
 IsSetFor Put (Some value) = Unit {0}
 IsSetFor Get set = Unit {0}
+
+-- the port is the party's, and at a put a value was stored for the offer
+pub record IsReady (fabric : Fabric) (view : PartyView) (port : ℕ) : Type 0 where
+  pub own : IsOwned fabric view.party port
+  pub set : IsSetFor own.spec.way (port_of view port).set
 
 -- a party opens a call at an idle port
 pub record MakesOffer (setting : Setting) (party : ℕ) (before after : Moment) : Type 0 where

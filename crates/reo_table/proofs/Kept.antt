@@ -46,7 +46,7 @@ module _ {S : Type 0} (setting : Setting) (slots id : ℕ) (me : Me S View) (is 
       → Allows (Rule setting) slots id me i f then
   lifted Step i f new later then law same steps s rule homes there small =
       let here : slice_get s.views id ≡ Some (Region (region_of me.0)) = found s.views id me.0 there ∙ ap Some is in
-      let seat = rule.tells.seats id (Region (region_of me.0)) here in
+      let seat = rule.tells.regions.seats id (region_of me.0) here in
       let step = steps s.words s.views rule seat.within seat.known in
       let n : ℕ = slice_index s.words i in (
         Region (new n),

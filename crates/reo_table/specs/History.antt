@@ -1,12 +1,19 @@
 -- The history for which the words stand, as far as a seat is told of it.
-use Rattle.std.specs.Prelude.{◌≡◌, ℕ, ◌+◌, ◌<◌, List, [], ◌∷◌, ◌++◌, length, All}
+use Rattle.std.specs.Prelude.{◌≡◌, ℕ, ◌+◌, ◌<◌, ◌≤◌, ◌⊎◌, List, [], ◌∷◌, ◌++◌, length, slice_get, All, Some, None}
+use Rattle.reo_value.specs.declared.value.Value.{Value}
+use Rattle.reo_value.specs.Code.{code_of, IsValue}
 use Rattle.reo_fabric.specs.declared.entry.Entry.{Entry}
+use Rattle.reo_fabric.specs.declared.fabric.PortSpec.{PortSpec}
 use Rattle.reo_fabric.specs.Entry.{content_at}
 use Rattle.reo_fabric.specs.Fabric.{first_state}
 use Rattle.reo_fabric.specs.History.{IsLawfulHistory, state_after}
 use Rattle.reo_fabric.specs.Reading.{cell_word}
 use Rattle.reo_coupling.specs.declared.view.CellsView.{CellsView}
 use Rattle.reo_coupling.specs.declared.view.RegionView.{RegionView}
+use Rattle.reo_coupling.specs.declared.view.PartyView.{PartyView}
+use Rattle.reo_coupling.specs.declared.view.Offer.{Offer}
+use Rattle.reo_coupling.specs.PortViews.{port_of}
+use Rattle.reo_coupling.specs.Ports.{datum_at, IsAfterItsPast, IsGiven}
 use Rattle.reo_coupling.specs.Moment.{Setting}
 use Rattle.reo_coupling.specs.Parts.{entries_of, IsLasting}
 use Rattle.reo_coupling.specs.PortParts.{OwesNothing}
@@ -43,3 +50,28 @@ pub record SaysWhatIsHeld (setting : Setting) (view : CellsView) (cell word : �
   pub lawful : IsLawfulHistory (first_state setting.fabric) history
   pub mine : view.entries ≡ entries_of view.region 0 history
   pub held : IsLasting setting.fabric view.region cell word → cell_word (content_at (state_after (first_state setting.fabric) history) cell) ≡ word
+
+-- What the state word of a port says to its party: 0 where no call stands, and else 1 or 3 and the number of the answer. What
+-- was read of an answer stays so.
+pub record SaysHowItStands (view : PartyView) (port word : ℕ) : Type 0 where
+  pub idle : (port_of view port).call ≡ None → word ≡ 0
+  pub called : (offer : Offer) → (port_of view port).call ≡ Some offer → (word ≡ 1) ⊎ (3 ≤ word)
+  pub seen : (number : ℕ) → (port_of view port).seen ≡ Some number → word ≡ 3 + number
+
+-- The call at a port was answered with this value, whose code the word is. Its entry is in a lawful history at the number that
+-- was read, which is above those of all calls that the party had collected when it made the offer. At a put the value is what
+-- was offered.
+pub record IsAnsweredWith (setting : Setting) (view : PartyView) (port word : ℕ) (value : Value) : Type 0 where
+  pub code : word ≡ code_of value
+  pub real : IsValue value
+  pub number : ℕ
+  pub seen : (port_of view port).seen ≡ Some number
+  pub history : List Entry
+  pub lawful : IsLawfulHistory (first_state setting.fabric) history
+  pub entry : Entry
+  pub found : slice_get history number ≡ Some entry
+  pub datum : datum_at entry port ≡ Some value
+  pub offer : Offer
+  pub called : (port_of view port).call ≡ Some offer
+  pub later : IsAfterItsPast view.calls offer number
+  pub given : (spec : PortSpec) → slice_get setting.fabric.ports port ≡ Some spec → IsGiven spec.way offer.value value

@@ -1,8 +1,9 @@
-//! The words that the threads of a circuit share, and the seats by which regions step on them. Each call of a seat is one atomic
+//! The words that the threads of a circuit share, and the seats by which regions and parties step on them. Each call of a seat is one atomic
 //! step, and the rule of `reo_coupling` holds between any two.
 #![tactic(auto)]
 
 mod clock;
+mod party_seat;
 mod region_seat;
 mod root;
 mod rule;
@@ -10,6 +11,7 @@ mod threads;
 mod words;
 
 pub use clock::Clock;
+pub use party_seat::PartySeat;
 pub use region_seat::RegionSeat;
 pub use root::Root;
 pub use threads::all_cross_threads;

@@ -1,7 +1,11 @@
 // The rule of the shared words, and the kinds of step.
 ghost use Rattle.std.specs.Prelude.{ℕ, []};
-ghost use Rattle.reo_coupling.specs.declared.view.View.TheVariants.{Root, Region};
-ghost use Rattle.reo_coupling.specs.Seats.{IsCoupled, fresh_region, after_split};
+ghost use Rattle.reo_coupling.specs.declared.view.View.TheVariants.{Root, Region, Party};
+ghost use Rattle.reo_coupling.specs.Seats.{IsCoupled, fresh_region, after_split, after_party_split};
+ghost use Rattle.reo_coupling.specs.PortViews.{fresh_party};
+ghost use Rattle.reo_value.specs.declared.value.Value.{Value as AnyValue};
+ghost use Rattle.reo_value.specs.declared.value.Value.TheVariants.{Sym};
+ghost use Rattle.reo_table.specs.Plays.{PutSet, OfferMade, StateSeen, GotSeen, Cleared};
 ghost use Rattle.reo_coupling.specs.Opening.{first_root};
 ghost use Rattle.reo_fabric.specs.declared.entry.Entry.{Entry as AnyEntry};
 ghost use Rattle.reo_fabric.specs.Room.{empty_entry};
@@ -47,6 +51,15 @@ pub(crate) trait Place {
 
 impl Place for Brand {
     ghost place = { 0 };
+}
+
+/// the value that it puts,
+pub(crate) trait Given {
+    ghost value: { AnyValue };
+}
+
+impl Given for Brand {
+    ghost value = { Sym 0 };
 }
 
 /// the entry that it commits.
@@ -136,4 +149,54 @@ impl<P: Place> Split<View> for Give<P> {
     ghost left = { λ view. Root (after_split (root_of view) P.place) };
 
     ghost right = { λ view. Region (fresh_region (root_of view).limit P.place) };
+}
+
+pub(crate) struct GiveParty<P: Place> {
+    of: PhantomData<P>,
+}
+
+impl<P: Place> Split<View> for GiveParty<P> {
+    ghost left = { λ view. Root (after_party_split (root_of view) P.place) };
+
+    ghost right = { λ view. Party (fresh_party P.place) };
+}
+
+pub(crate) struct SetPut<P: Place, D: Given> {
+    of: PhantomData<(P, D)>,
+}
+
+impl<P: Place, D: Given> Play<(), View> for SetPut<P, D> {
+    ghost then = { λ step before word after. PutSet P.place D.value before word after };
+}
+
+pub(crate) struct Offer<P: Place> {
+    of: PhantomData<P>,
+}
+
+impl<P: Place> Play<(), View> for Offer<P> {
+    ghost then = { λ step before word after. OfferMade P.place before word after };
+}
+
+pub(crate) struct SeeState<P: Place> {
+    of: PhantomData<P>,
+}
+
+impl<P: Place> Play<(), View> for SeeState<P> {
+    ghost then = { λ step before found after. StateSeen P.place step.word before found after };
+}
+
+pub(crate) struct SeeGot<T: Told, P: Place> {
+    of: PhantomData<(T, P)>,
+}
+
+impl<T: Told, P: Place> Play<(), View> for SeeGot<T, P> {
+    ghost then = { λ step before found after. GotSeen T.setting P.place step.word before found after };
+}
+
+pub(crate) struct Clear<P: Place> {
+    of: PhantomData<P>,
+}
+
+impl<P: Place> Play<(), View> for Clear<P> {
+    ghost then = { λ step before word after. Cleared P.place before word after };
 }

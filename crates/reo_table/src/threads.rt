@@ -1,4 +1,5 @@
 //! Threads share the words, and a seat goes to the thread that steps with it.
+use crate::party_seat::PartySeat;
 use crate::region_seat::RegionSeat;
 use crate::root::Root;
 use crate::words::Words;
@@ -10,8 +11,9 @@ fn is_shared<T: Send + Sync>(_value: &T) {}
 fn is_sent<T: Send>(_value: &T) {}
 
 /// Threads may share the words, and send the root and the seats.
-pub fn all_cross_threads(words: &Words, root: &Root, seat: &RegionSeat) {
+pub fn all_cross_threads(words: &Words, root: &Root, seat: &RegionSeat, party: &PartySeat) {
     is_shared(words);
     is_sent(root);
     is_sent(seat);
+    is_sent(party);
 }
