@@ -4,6 +4,7 @@
 mod document;
 mod function;
 mod guard;
+pub mod laws;
 mod line;
 
 pub use document::print_document;

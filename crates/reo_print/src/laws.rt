@@ -1,0 +1,8 @@
+//! Laws about the definitions, each a function that does nothing.
+ghost use Rattle.reo_print.specs.Laws.{TextsAreCutAgain, TextsAreMeantAgain};
+
+/// What is written of a text is read as one token, which stands for the text.
+pub fn written_texts_are_read_again()
+    ensures cut { TextsAreCutAgain }
+    ensures meant { TextsAreMeantAgain }
+{}
