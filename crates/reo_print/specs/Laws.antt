@@ -1,11 +1,12 @@
--- What is written of a text is read again.
-use Rattle.std.specs.Prelude.{◌≡◌, ℕ, ◌==◌, nat_le, Bool, true, ◌||◌, List, ◌++◌, length, Some}
+-- What is written of texts and names is read again.
+use Rattle.std.specs.Prelude.{◌≡◌, ℕ, ◌==◌, nat_le, Bool, true, false, not, ◌&&◌, ◌||◌, List, [], ◌∷◌, ◌++◌, length, Some}
 use Rattle.std.specs.List.{list_all}
 use Rattle.reo_value.specs.Lexicon.{text_at}
 use Rattle.reo_value.specs.declared.value.Value.TheVariants.{Sym}
 use Rattle.reo_token.specs.declared.token.Lexeme.TheVariants as lexeme
+use Rattle.reo_token.specs.Bytes.{is_letter, is_word_byte}
 use Rattle.reo_token.specs.Cut.{token_at}
-use Rattle.reo_grammar.specs.Token.{Text}
+use Rattle.reo_grammar.specs.Token.{Word, Text}
 use Rattle.reo_sentence.specs.Seen.{seen}
 use Rattle.reo_trace.specs.ReportText.{value_text}
 
@@ -22,3 +23,21 @@ TextsAreCutAgain = (texts : List (List ℕ)) (number : ℕ) (rest : List ℕ) �
 abbrev pub TextsAreMeantAgain : Type 0
 TextsAreMeantAgain = (texts : List (List ℕ)) (number : ℕ) (rest : List ℕ)
     → seen (value_text texts (Sym number) ++ rest) (record { lexeme = lexeme.Text; start = 0; end = length (value_text texts (Sym number)) }) ≡ Text (text_at texts number)
+
+-- a letter or `_`, and then word bytes
+abbrev pub can_be_a_name : List ℕ → Bool
+can_be_a_name [] = false
+can_be_a_name (byte ∷ bytes) = is_letter byte && list_all is_word_byte bytes
+
+-- no word byte comes next
+abbrev pub ends_a_word : List ℕ → Bool
+ends_a_word [] = true
+ends_a_word (byte ∷ bytes) = not (is_word_byte byte)
+
+-- a name is cut off as one word
+abbrev pub NamesAreCutAgain : Type 0
+NamesAreCutAgain = (name rest : List ℕ) → can_be_a_name name ≡ true → ends_a_word rest ≡ true → token_at (name ++ rest) ≡ Some (lexeme.Word, length name)
+
+-- and this word is the name
+abbrev pub NamesAreMeantAgain : Type 0
+NamesAreMeantAgain = (name rest : List ℕ) → seen (name ++ rest) (record { lexeme = lexeme.Word; start = 0; end = length name }) ≡ Word name
