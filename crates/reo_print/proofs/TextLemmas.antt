@@ -11,8 +11,9 @@ use Rattle.reo_value.specs.Lexicon.{text_at}
 use Rattle.reo_value.specs.declared.value.Value.TheVariants.{Sym}
 use Rattle.reo_trace.specs.ReportText.{escaped, value_text}
 use Rattle.reo_print.specs.Laws.{can_be_spelled}
+use Rattle.reo_print.proofs.NameLemmas.{front}
 
-not_so : {S R : Type 0} (f : S → R) (test : Bool) (x y : S) → test ≡ false → f (if test then x else y) ≡ f y
+pub not_so : {S R : Type 0} (f : S → R) (test : Bool) (x y : S) → test ≡ false → f (if test then x else y) ≡ f y
 not_so f true x y is = absurd (false≢true (sym is))
 not_so f false x y is = refl
 
@@ -87,10 +88,6 @@ between : (inner rest : List ℕ) (len : ℕ) → len ≡ length inner + 2 → s
 between inner rest len is =
     let count : len - 1 - 1 ≡ length inner = omega (arith, is) in
     ap (λ n. take n (inner ++ 34 ∷ rest)) count ∙ front inner (34 ∷ rest)
-  where
-    front : (xs ys : List ℕ) → take (length xs) (xs ++ ys) ≡ xs
-    front [] ys = refl
-    front (x ∷ xs) ys = ap (λ zs. x ∷ zs) (front xs ys)
 
 pub meant_again : (texts : List (List ℕ)) (number : ℕ) (rest : List ℕ)
     → seen (value_text texts (Sym number) ++ rest) (record { lexeme = lexeme.Text; start = 0; end = length (value_text texts (Sym number)) }) ≡ Text (text_at texts number)

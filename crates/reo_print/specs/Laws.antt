@@ -1,12 +1,12 @@
--- What is written of texts and names is read again.
-use Rattle.std.specs.Prelude.{◌≡◌, ℕ, ◌==◌, nat_le, Bool, true, false, not, ◌&&◌, ◌||◌, List, [], ◌∷◌, ◌++◌, length, Some}
+-- What is written of texts, names and numbers is read again.
+use Rattle.std.specs.Prelude.{◌≡◌, ℕ, ℤ, nat_abs, ◌<◌, ◌^◌, ◌==◌, nat_le, Bool, true, false, not, ◌&&◌, ◌||◌, List, [], ◌∷◌, ◌++◌, length, Some}
 use Rattle.std.specs.List.{list_all}
 use Rattle.reo_value.specs.Lexicon.{text_at}
-use Rattle.reo_value.specs.declared.value.Value.TheVariants.{Sym}
+use Rattle.reo_value.specs.declared.value.Value.TheVariants.{Int, Sym}
 use Rattle.reo_token.specs.declared.token.Lexeme.TheVariants as lexeme
 use Rattle.reo_token.specs.Bytes.{is_letter, is_word_byte}
 use Rattle.reo_token.specs.Cut.{token_at}
-use Rattle.reo_grammar.specs.Token.{Word, Text}
+use Rattle.reo_grammar.specs.Token.{Word, Number, Text}
 use Rattle.reo_sentence.specs.Seen.{seen}
 use Rattle.reo_trace.specs.ReportText.{value_text}
 
@@ -41,3 +41,13 @@ NamesAreCutAgain = (name rest : List ℕ) → can_be_a_name name ≡ true → en
 -- and this word is the name
 abbrev pub NamesAreMeantAgain : Type 0
 NamesAreMeantAgain = (name rest : List ℕ) → seen (name ++ rest) (record { lexeme = lexeme.Word; start = 0; end = length name }) ≡ Word name
+
+-- a number of at most 64 bits, behind a minus sign or not, is cut off as one token
+abbrev pub NumbersAreCutAgain : Type 0
+NumbersAreCutAgain = (texts : List (List ℕ)) (number : ℤ) (rest : List ℕ) → nat_abs number < 2 ^ 64 → ends_a_word rest ≡ true
+    → token_at (value_text texts (Int number) ++ rest) ≡ Some (lexeme.Number, length (value_text texts (Int number)))
+
+-- and this token stands for the number
+abbrev pub NumbersAreMeantAgain : Type 0
+NumbersAreMeantAgain = (texts : List (List ℕ)) (number : ℤ) (rest : List ℕ) → nat_abs number < 2 ^ 64
+    → seen (value_text texts (Int number) ++ rest) (record { lexeme = lexeme.Number; start = 0; end = length (value_text texts (Int number)) }) ≡ Number number
