@@ -86,7 +86,7 @@ seen_low word seen false is low =
     let high = ltb-false word 3 is in
     absurd (omega (arith, low, high))
 
-seen_high : (word number : ℕ) (seen : Option ℕ) (b : Bool) → nat_lt word 3 ≡ b → word ≡ 3 + number → seen_in word seen ≡ Some number
+pub seen_high : (word number : ℕ) (seen : Option ℕ) (b : Bool) → nat_lt word 3 ≡ b → word ≡ 3 + number → seen_in word seen ≡ Some number
 seen_high word number seen true is high =
     let low : word < 3 = ltb-true word 3 is in
     absurd (omega (arith, low, high))

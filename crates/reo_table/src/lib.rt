@@ -1,5 +1,5 @@
-//! The words that the threads of a circuit share, and the seats by which regions and parties step on them. Each call of a seat is one atomic
-//! step, and the rule of `reo_coupling` holds between any two.
+//! The words that the threads of a circuit share, and the seats by which regions and parties step on them. Each call of a seat is
+//! one atomic step, and the rule of `reo_coupling` holds between any two.
 #![tactic(auto)]
 
 mod clock;

@@ -1,0 +1,3 @@
+pub mod OwnPorts
+pub mod Posting
+pub mod Collecting
