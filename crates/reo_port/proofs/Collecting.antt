@@ -23,13 +23,13 @@ use Rattle.reo_table.specs.Shared.{WordsState, PartyState, party_knowing, after_
 use Rattle.reo_port.specs.Party.{PartyValue, IsPartyOf, way_at, standing, call_at, AreNoted, IsAnswer}
 use Rattle.reo_port.proofs.OwnPorts.{IsAt, owned, noted_after, has_place}
 
-module _ (setting : Setting) (v0 v1 v2 v3 : PartyView) (port s word place : ℕ) (value : Value) (read : v1 ≡ after_see_state v0 port (state_place setting.fabric port) s) (high : 3 ≤ s) (answered : IsAnsweredWith setting v1 port word value)
-    (looked : v2 ≡ after_see_got v1 port place word value) where
+module _ (setting : Setting) (v0 v1 v2 v3 : PartyView) (port s word : ℕ) (value : Value) (read : v1 ≡ after_see_state v0 port (state_place setting.fabric port) s) (high : 3 ≤ s) (answered : IsAnsweredWith setting v1 port word value)
+    (looked : v2 ≡ after_see_got v1 port (data_place setting.fabric port) word value) where
   at_one : port_of v1 port ≡ record (port_of v0 port) { seen = seen_in s (port_of v0 port).seen }
   at_one = ap (λ (v : PartyView). port_of v port) read ∙ port_here (party_after_load v0 (state_place setting.fabric port) s) port _
 
   at_two : port_of v2 port ≡ record (port_of v1 port) { datum = Some value }
-  at_two = ap (λ (v : PartyView). port_of v port) looked ∙ port_here (party_after_load v1 place word) port _
+  at_two = ap (λ (v : PartyView). port_of v port) looked ∙ port_here (party_after_load v1 (data_place setting.fabric port) word) port _
 
   pub seen_one : (port_of v1 port).seen ≡ Some (s - 3)
   seen_one = ap (λ (k : PortView). k.seen) at_one ∙ seen_high s (s - 3) (port_of v0 port).seen (nat_lt s 3) refl (omega (arith, high))
@@ -39,6 +39,9 @@ module _ (setting : Setting) (v0 v1 v2 v3 : PartyView) (port s word place : ℕ)
 
   pub datum_two : (port_of v2 port).datum ≡ Some value
   datum_two = ap (λ (k : PortView). k.datum) at_two
+
+  abbrev loads_with : ℕ → ℕ → List (ℕ × ℕ)
+  loads_with n w = (v0.loads ++ (state_place setting.fabric port, n) ∷ []) ++ (data_place setting.fabric port, w) ∷ []
 
   number_is : answered.number ≡ s - 3
   number_is = same_Some _ _ (sym answered.seen ∙ seen_one)
@@ -52,7 +55,7 @@ module _ (setting : Setting) (v0 v1 v2 v3 : PartyView) (port s word place : ℕ)
   pub else_two : (other : ℕ) → (other ≡ port → ⊥) → port_of v2 other ≡ port_of v0 other
   else_two other ne =
       ap (λ (v : PartyView). port_of v other) looked
-      ∙ (port_else (party_after_load v1 place word) port other _ ne ∙ (ap (λ (v : PartyView). port_of v other) read ∙ port_else (party_after_load v0 (state_place setting.fabric port) s) port other _ ne))
+      ∙ (port_else (party_after_load v1 (data_place setting.fabric port) word) port other _ ne ∙ (ap (λ (v : PartyView). port_of v other) read ∙ port_else (party_after_load v0 (state_place setting.fabric port) s) port other _ ne))
 
   pub collected : (found : Value) → IsValue found → code_of found ≡ word → v3 ≡ after_clear v2 port → IsAnswer setting v0 v3 port found (s - 3)
   collected found real code cleared =
@@ -64,9 +67,13 @@ module _ (setting : Setting) (v0 v1 v2 v3 : PartyView) (port s word place : ℕ)
             ∙ (ap (λ (l : List Call). l ++ record { port = port; value = value; number = s - 3 } ∷ []) calls_two ∙ ap (λ (v : Value). v0.calls ++ record { port = port; value = v; number = s - 3 } ∷ []) is));
         idle = ap (λ (v : PartyView). (port_of v port).call) cleared ∙ ap (λ (k : PortView). k.call) (port_here (record v2 { calls = v2.calls ++ Rattle.reo_coupling.specs.PortViews.answered_call port (port_of v2 port).seen (port_of v2 port).datum }) port _);
         others = λ other ne.
-            ap (λ (v : PartyView). (port_of v other).call) cleared
-            ∙ (ap (λ (k : PortView). k.call) (port_else (record v2 { calls = v2.calls ++ Rattle.reo_coupling.specs.PortViews.answered_call port (port_of v2 port).seen (port_of v2 port).datum }) port other _ ne)
-            ∙ ap (λ (k : PortView). k.call) (else_two other ne));
+            ap (λ (v : PartyView). port_of v other) cleared
+            ∙ (port_else (record v2 { calls = v2.calls ++ Rattle.reo_coupling.specs.PortViews.answered_call port (port_of v2 port).seen (port_of v2 port).datum }) port other _ ne ∙ else_two other ne);
+        loads =
+            ap (λ (v : PartyView). v.loads) cleared
+            ∙ (ap (λ (v : PartyView). v.loads) looked
+            ∙ (ap (λ (l : List (ℕ × ℕ)). l ++ (data_place setting.fabric port, word) ∷ []) (ap (λ (v : PartyView). v.loads) read)
+            ∙ (ap (λ (n : ℕ). loads_with n word) (omega (arith, high)) ∙ ap (λ (w : ℕ). loads_with (3 + (s - 3)) w) (sym code))));
         party = ap (λ (v : PartyView). v.party) cleared ∙ (ap (λ (v : PartyView). v.party) looked ∙ ap (λ (v : PartyView). v.party) read);
         history = answered.history;
         lawful = answered.lawful;
@@ -101,7 +108,7 @@ module _ (words : WordsState) (told : PartyValue) (seat0 seat1 seat2 seat3 : Par
     (high : 3 ≤ s) (look : GotLook words seat1 seat2 port word) (cleared : seat3 ≡ party_knowing seat2 (after_clear seat2.view port)) (found : Value) (real : IsValue found) (code : code_of found ≡ word) where
   answer : IsAnswer words.setting seat0.view seat3.view port found (s - 3)
   answer =
-      collected words.setting seat0.view seat1.view seat2.view seat3.view port s word (data_place words.setting.fabric port) look.value (ap (λ (p : PartyState). p.view) read) high look.answered (ap (λ (p : PartyState). p.view) look.view) found real code
+      collected words.setting seat0.view seat1.view seat2.view seat3.view port s word look.value (ap (λ (p : PartyState). p.view) read) high look.answered (ap (λ (p : PartyState). p.view) look.view) found real code
       (ap (λ (p : PartyState). p.view) cleared)
 
   pub answer_told : IsAnswer words.setting told.view seat3.view port found (s - 3)
@@ -116,7 +123,7 @@ module _ (words : WordsState) (told : PartyValue) (seat0 seat1 seat2 seat3 : Par
   noted_none calls noted some =
       let there = way_there (way_at told port) port (port_of told.view port).call some in
       let way_is : get_or ways port None ≡ Some there.0 = ap (λ (p : PartyValue). way_at p port) is ∙ there.1 in
-      noted_after ways seat0.view seat3.view calls port None None noted (subst (λ n. port < n) (sym noted.same) (has_place ways port there.0 way_is)) answer.idle answer.others (ap (λ w. standing w port None) (sym way_is))
+      noted_after ways seat0.view seat3.view calls port None None noted (subst (λ n. port < n) (sym noted.same) (has_place ways port there.0 way_is)) answer.idle (λ other ne. ap (λ (k : PortView). k.call) (answer.others other ne)) (ap (λ w. standing w port None) (sym way_is))
       (λ offer way called empty. no_offer offer called)
     where
       no_offer : (offer : Offer) → ◌≡◌ {A = Option Offer} None (Some offer) → ⊥

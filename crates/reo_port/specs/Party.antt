@@ -1,5 +1,5 @@
 -- A party, as contracts see it, and what its calls answer.
-use Rattle.std.specs.Prelude.{◌≡◌, ◌≢◌, ℕ, Bool, true, false, List, [], ◌∷◌, ◌++◌, length, map, slice_get, slice_index_or, Option, Some, None, nat_eq, if◌then◌else◌}
+use Rattle.std.specs.Prelude.{◌≡◌, ◌≢◌, ℕ, ◌+◌, Bool, true, false, List, [], ◌∷◌, ◌++◌, length, map, slice_get, slice_index_or, Option, Some, None, nat_eq, if◌then◌else◌}
 use Rattle.atomic_table.specs.Seated.{TableId}
 use Rattle.reo_value.specs.declared.value.Value.{Value}
 use Rattle.reo_value.specs.declared.op.Op.{Op}
@@ -14,7 +14,7 @@ use Rattle.reo_fabric.specs.declared.fabric.Fabric.{Fabric}
 use Rattle.reo_fabric.specs.declared.fabric.PortSpec.{PortSpec}
 use Rattle.reo_coupling.specs.declared.view.Offer.{Offer}
 use Rattle.reo_coupling.specs.declared.view.PartyView.{PartyView}
-use Rattle.reo_coupling.specs.Moment.{Setting, state_place}
+use Rattle.reo_coupling.specs.Moment.{Setting, state_place, data_place}
 use Rattle.reo_coupling.specs.PortViews.{port_of, after_see_state}
 use Rattle.reo_coupling.specs.Ports.{datum_at, IsAfterItsPast, IsGiven}
 use Rattle.reo_table.specs.Shared.{WordsState}
@@ -89,7 +89,9 @@ pub record AreNoted (ways : List (Option Way)) (view : PartyView) (calls : List 
 pub record IsAnswer (setting : Setting) (old new : PartyView) (port : ℕ) (value : Value) (number : ℕ) : Type 0 where
   pub calls : new.calls ≡ old.calls ++ record { port = port; value = value; number = number } ∷ []
   pub idle : (port_of new port).call ≡ None
-  pub others : (other : ℕ) → (other ≡ port → ⊥) → (port_of new other).call ≡ (port_of old other).call
+  pub others : (other : ℕ) → (other ≡ port → ⊥) → port_of new other ≡ port_of old other
+  -- the words that were read
+  pub loads : new.loads ≡ (old.loads ++ (state_place setting.fabric port, 3 + number) ∷ []) ++ (data_place setting.fabric port, code_of value) ∷ []
   pub party : new.party ≡ old.party
   pub history : List Entry
   pub lawful : IsLawfulHistory (first_state setting.fabric) history
