@@ -12,11 +12,15 @@ pub fn document(alloc: Global, text: &str) -> Option<Document> {
     read_document(alloc, text.as_bytes()).ok()
 }
 
+fn checked(alloc: Global, document: &Document) -> Result<Net, CheckRefusal> {
+    let raw = document.circuit(alloc)?;
+    check(alloc, &raw)
+}
+
 /// The circuit of a document, or why the checks refuse it.
 pub fn net(alloc: Global, text: &str) -> Option<Result<Net, CheckRefusal>> {
     let document = document(alloc, text)?;
-    let raw = document.circuit(alloc).ok()?;
-    Some(check(alloc, &raw))
+    Some(checked(alloc, &document))
 }
 
 /// The cut of a circuit that is accepted.
