@@ -22,3 +22,4 @@ pub mod Sources
 pub mod PartyFrames
 pub mod PartySteps
 pub mod Placed
+pub mod Home

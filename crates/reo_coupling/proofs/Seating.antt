@@ -43,7 +43,7 @@ region_injective a b e = cc
 party_injective : (a b : PartyView) → seat.Party a ≡ seat.Party b → a ≡ b
 party_injective a b e = cc
 
-root_injective : (a b : RootView) → seat.Root a ≡ seat.Root b → a ≡ b
+pub root_injective : (a b : RootView) → seat.Root a ≡ seat.Root b → a ≡ b
 root_injective a b e = cc
 
 region_no_party : (a : RegionView) (b : PartyView) → seat.Region a ≡ seat.Party b → ⊥

@@ -12,3 +12,4 @@ pub mod Seats
 pub mod Opening
 pub mod Laws
 pub mod Sources
+pub mod Home

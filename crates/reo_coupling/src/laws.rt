@@ -5,6 +5,7 @@ ghost use Rattle.reo_coupling.specs.PartySteps.{SetsPut, MakesOffer, SeesState, 
 ghost use Rattle.reo_coupling.specs.Seats.{KeepsTheRule, SplittingKeepsTheRule, JoiningKeepsTheRule};
 ghost use Rattle.reo_coupling.specs.Seats.{PartyKeepsTheRule, PartySplittingKeepsTheRule, PartyJoiningKeepsTheRule};
 ghost use Rattle.reo_coupling.specs.Opening.{OpensCoupled};
+ghost use Rattle.reo_coupling.specs.Home.{OneHistoryExplainsAll};
 ghost use Rattle.reo_coupling.specs.Sources.{TakesHaveSources};
 ghost use Rattle.reo_coupling.specs.Laws.{NumbersStandOnce, OnlyCommitsChangeTheState};
 
@@ -116,6 +117,11 @@ pub fn joining_keeps()
 /// The rule holds of the first words.
 pub fn first_words_are_coupled()
     ensures { OpensCoupled }
+{}
+
+/// Where all seats are home, one history explains the words and all that the seats knew.
+pub fn one_history_explains_all()
+    ensures { OneHistoryExplainsAll }
 {}
 
 /// Each number is in one region's list, with its entry.
