@@ -1,5 +1,5 @@
 #!/usr/bin/env python3
-"""Runs the built program on circuits at their limits, and prints seconds and peak memory of each run.
+"""Runs the built program on circuits at their limits, and prints seconds and peak memory of each run, and steps a second.
 
 Usage: bench/regions.py [PROGRAM]    (default: crates/reo/out/reo, which ./reo --prove builds)
 """
@@ -7,6 +7,7 @@ import os
 import subprocess
 import sys
 import tempfile
+import time
 
 HERE = os.path.dirname(os.path.abspath(__file__))
 
@@ -48,12 +49,25 @@ def syncs(length, items):
     return lines + ["component Q"] + [f"get N{length}"] * items
 
 
+def puts_into(circuit, width, items):
+    """A circuit, and components that put at its ports A0, A1, .. in turn, and one that gets at M."""
+    scripts = [line for k in range(width) for line in [f"component P{k}"] + [f"put A{k} {k}"] * (items // width)]
+    return circuit + scripts + ["component Q"] + ["get M"] * (items // width * width)
+
+
+def puts_out(circuit, items):
+    """A circuit, a component that puts at its port A, and none that gets: the last of all firings is chosen."""
+    return circuit + ["component P"] + [f"put A {k}" for k in range(items)]
+
+
 CASES = [
     ("all limits", "plan", limits()),
     ("fan of 4,096 firings", "plan", fan(12)),
     ("more than 65,536 vertices", "plan", fan(9, 40)),
     ("merger of twelve", "plan", merger(12)),
     ("20,000 choices of a router", "run --plain", router(20_000)),
+    ("12,000 choices of a merger of twelve", "run --plain", puts_into(merger(12), 12, 12_000)),
+    ("1,000 choices among 4,096 firings", "run --plain", puts_out(fan(12), 1_000)),
     ("2,000 data through 64 Syncs", "run --plain", syncs(64, 2_000)),
 ]
 
@@ -65,8 +79,13 @@ def main():
             text.write(("\n".join(lines) + "\n").encode())
             text.seek(0)
             timed = ["/usr/bin/time", "-f", "%e s, %M KiB"]
-            run = subprocess.run(timed + [program] + words.split(), stdin=text, stdout=subprocess.DEVNULL, stderr=subprocess.PIPE)
+            begun = time.monotonic()
+            run = subprocess.run(timed + [program] + words.split(), stdin=text, stdout=subprocess.PIPE, stderr=subprocess.PIPE)
+            seconds = time.monotonic() - begun
         told = [line for line in run.stderr.decode().splitlines() if not line.startswith("Command exited")]
+        steps = sum(line.startswith(b"step ") for line in run.stdout.splitlines())
+        if steps:
+            told.append(f"{steps / seconds:,.0f} steps/s")
         print(f"{title}: {'; '.join(told)}")
 
 
