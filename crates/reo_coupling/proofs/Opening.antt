@@ -21,7 +21,7 @@ use Rattle.reo_coupling.specs.Moment.{Setting, round_place, cell_place}
 use Rattle.reo_coupling.specs.Whole.{StandsFor}
 use Rattle.reo_coupling.specs.PortViews.{fresh_port, fresh_party}
 use Rattle.reo_coupling.specs.Ports.{taken_at}
-use Rattle.reo_coupling.specs.PortParts.{known_at, calls_of, port_now}
+use Rattle.reo_coupling.specs.PortParts.{CallStands, known_at, calls_of, port_now}
 use Rattle.reo_coupling.specs.declared.view.Call.{Call}
 use Rattle.reo_value.specs.declared.value.Value.{Value}
 use Rattle.reo_coupling.specs.Seats.{moment_of, fresh_region, region_name, party_name, MarkTells, KindTells, SeatsTell}
@@ -117,7 +117,7 @@ module _ (setting : Setting) where
       offers = λ r within. record { states = λ port noted. absurd (nothing_noted port 1 noted); laid = λ port word noted. absurd (nothing_noted port word noted) };
       stores = λ r within. inl (record { cells = record { takes = refl; fills = refl }; gots = refl; answers = refl });
       answers = λ r within. record { gots = λ port value due. absurd (no_value port value due); answers = λ port number due. absurd (nothing_noted port number due) };
-      calls = λ party within. All-nil (λ (c : Call). c.number < 0);
+      calls = λ party within. All-nil (CallStands setting.fabric [] party);
       parties = λ party within. refl;
     }
       where
@@ -145,13 +145,17 @@ module _ (setting : Setting) where
   no_party view root e = cc
 
   all_fresh : {W : Type 0} (wrap : W → View) (name : W → ℕ) (fresh : ℕ → W) (count : ℕ) → ((view : W) (root : RootView) → seat.Root root ≡ wrap view → ⊥)
-      → KindTells wrap name fresh count (replicate count Fresh) fresh (seat.Root (first_root setting) ∷ [])
+      → KindTells wrap name fresh count (replicate count Fresh) [] fresh (seat.Root (first_root setting) ∷ [])
   all_fresh {W} wrap name fresh count no_root = record {
     seat_of = λ n. 0;
-    all = length-replicate {A = Mark W} count Fresh;
-    each = λ number within. subst (MarkTells wrap fresh fresh (seat.Root (first_root setting) ∷ []) (λ n. 0) number) (sym (get_or-replicate count number Fresh Fresh within)) refl;
+    all = length-replicate {A = Mark} count Fresh;
+    each = λ number within. subst (MarkTells wrap fresh fresh (seat.Root (first_root setting) ∷ []) [] (λ n. 0) number) (sym (get_or-replicate count number Fresh Fresh within)) refl;
     seats = λ id view found. no_seat id (wrap view) (no_root view) found;
+    back = λ view among. absurd (none_home view among.place among.found);
   }
+    where
+      none_home : (view : W) (place : ℕ) → slice_get [] place ≡ Some view → ⊥
+      none_home view place found = cc
 
   first_tells : SeatsTell setting first_book fresh_party (seat.Root (first_root setting) ∷ [])
   unfolding first_book

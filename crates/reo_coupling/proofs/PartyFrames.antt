@@ -16,8 +16,8 @@ use Rattle.reo_coupling.specs.Moment.{Setting, Moment, round_place, cell_place, 
 use Rattle.reo_coupling.specs.PortViews.{port_of, with_port, known_or_fresh}
 use Rattle.reo_coupling.specs.Parts.{view_of, cleared_below}
 use Rattle.reo_coupling.specs.Ports.{places_of, taken_at, PortNow, PortStands}
-use Rattle.reo_coupling.specs.PortParts.{ports_of, known_at, calls_of, state_at, data_at, port_now, PortsStand, IsPortOf, OffersStand, OwesNothing, IsStoring, PortDuesAreOfTheLast}
-use Rattle.reo_coupling.specs.PartySteps.{IsOwned, IsOfParty, known_of}
+use Rattle.reo_coupling.specs.PortParts.{ports_of, known_at, calls_of, state_at, data_at, port_now, PortsStand, IsPortOf, OffersStand, OwesNothing, IsStoring, PortDuesAreOfTheLast, IsOwned, CallStands}
+use Rattle.reo_coupling.specs.PartySteps.{IsOfParty, known_of}
 use Rattle.reo_coupling.specs.Whole.{StandsFor}
 use Rattle.reo_coupling.proofs.Frames.{sized_stays, named_stays, counted_stays, lawful_stays, cells_stay, notes_stay, rounds_stay, limit_stays}
 use Rattle.reo_coupling.proofs.OnePort.{same_port}
@@ -44,7 +44,7 @@ module _ (setting : Setting) (party : ℕ) (before after : Moment) (stands : Sta
 
   module _ (size : length after.words ≡ length before.words) (words : (place : ℕ) → place < 1 + setting.fabric.regions + length setting.fabric.cells → slice_index after.words place ≡ slice_index before.words place)
       (noted : (port : ℕ) → state_at setting before port ≡ 1 → (state_at setting after port ≡ state_at setting before port) × (data_at setting after port ≡ data_at setting before port))
-      (named : (after.folk party).party ≡ (before.folk party).party) (calls : All (λ (c : Call). c.number < length before.history) (after.folk party).calls) (ports : PortsStand setting after) (inside : party < setting.fabric.parties) where
+      (named : (after.folk party).party ≡ (before.folk party).party) (calls : All (CallStands setting.fabric before.history party) (after.folk party).calls) (ports : PortsStand setting after) (inside : party < setting.fabric.parties) where
     offers_keep : (r : ℕ) → OffersStand setting before r (ports_of before r) → OffersStand setting after r (ports_of before r)
     offers_keep r stand = record {
       states = λ port at.
@@ -72,8 +72,8 @@ module _ (setting : Setting) (party : ℕ) (before after : Moment) (stands : Sta
       offers = λ r within. subst (λ (b : ℕ → RegionView). OffersStand setting after r (b r).ports) (sym frame.regions) (offers_keep r (stands.offers r within));
       stores = subst (λ (b : ℕ → RegionView). Rattle.reo_coupling.specs.PortParts.StoresComeFirst setting (record before { book = b })) (sym frame.regions) stands.stores;
       answers = subst (λ (b : ℕ → RegionView). Rattle.reo_coupling.specs.PortParts.AnswersAreOfTheLast setting (record before { book = b })) (sym frame.regions) stands.answers;
-      calls = each_party (λ k view. All (λ (c : Call). c.number < length after.history) view.calls) (subst (λ (h : List Entry). All (λ (c : Call). c.number < length h) (after.folk party).calls) (sym frame.history) calls)
-          (λ other within. subst (λ (h : List Entry). All (λ (c : Call). c.number < length h) (before.folk other).calls) (sym frame.history) (stands.calls other within));
+      calls = each_party (λ k view. All (CallStands setting.fabric after.history k) view.calls) (subst (λ (h : List Entry). All (CallStands setting.fabric h party) (after.folk party).calls) (sym frame.history) calls)
+          (λ other within. subst (λ (h : List Entry). All (CallStands setting.fabric h other) (before.folk other).calls) (sym frame.history) (stands.calls other within));
       parties = each_party (λ k view. view.party ≡ k) (named ∙ stands.parties party inside) stands.parties;
     }
 

@@ -13,9 +13,10 @@ use Rattle.reo_coupling.specs.declared.view.PortView.{PortView}
 use Rattle.reo_coupling.specs.Moment.{Setting, Moment, state_place, data_place}
 use Rattle.reo_coupling.specs.PortViews.{port_of, with_port, party_after_load, seen_in, after_call, answered_call}
 use Rattle.reo_coupling.specs.Ports.{datum_at, with_datum, places_of, taken_at, PortNow, PortStands, IsIdle, IsAnswered}
-use Rattle.reo_coupling.specs.PortParts.{known_at, calls_of, state_at, data_at, port_now}
-use Rattle.reo_coupling.specs.PartySteps.{IsOwned, IsOfParty, known_of, SetsPut, MakesOffer, SeesState, SeesGot, Clears, PartyKeeps}
+use Rattle.reo_coupling.specs.PortParts.{CallStands, known_at, calls_of, state_at, data_at, port_now, IsOwned}
+use Rattle.reo_coupling.specs.PartySteps.{IsOfParty, known_of, SetsPut, MakesOffer, SeesState, SeesGot, Clears, PartyKeeps}
 use Rattle.reo_coupling.specs.Whole.{StandsFor}
+use Rattle.reo_coupling.proofs.Placed.{Placed, in_history}
 use Rattle.reo_coupling.proofs.Frames.{word_else, word_here, length_else}
 use Rattle.reo_coupling.proofs.OnePort.{same_port}
 use Rattle.reo_coupling.proofs.OneCall.{uncalled_is_idle, seen_is_answered, one_sets_put, one_offers, one_sees_state, one_sees_got, one_clears}
@@ -66,7 +67,7 @@ set_put_keeps setting party before after inside stands step =
     let at : step.port < length setting.fabric.ports = within setting party before stands step.port step.own in
     party_keeps setting party before after stands step.frame (length_else before.words after.words _ _ step.words) (λ place low. word_else before.words after.words _ _ place step.words (λ same. omega (arith, low, same)))
     (noted_else setting before after step.port (zero_no_one _ (own_idle setting party before stands step.port step.own step.idle)) (λ other ne. states other) datas) (ap (λ (v : PartyView). v.party) step.view)
-    (subst (λ l. All (λ (c : Call). c.number < length before.history) l) (sym same_calls) (stands.calls party inside))
+    (subst (λ l. All (CallStands setting.fabric before.history party) l) (sym same_calls) (stands.calls party inside))
     (each_port setting party before after stands step.frame step.port [] (same_calls ∙ sym (append-nil (before.folk party).calls)) (λ other ne. ap (taken_at other) (append-nil (before.folk party).calls))
     (λ other ne. ap (λ (v : PartyView). port_of v other) step.view ∙ port_else (before.folk party) step.port other _ ne) (λ other ne. states other) datas
     (λ spec found.
@@ -87,7 +88,7 @@ offer_keeps setting party before after inside stands step =
     let at : step.port < length setting.fabric.ports = within setting party before stands step.port step.own in
     party_keeps setting party before after stands step.frame (length_else before.words after.words _ _ step.words) (λ place low. word_else before.words after.words _ _ place step.words (λ same. omega (arith, low, same)))
     (noted_else setting before after step.port (zero_no_one _ (own_idle setting party before stands step.port step.own step.idle)) states (λ other ne. datas other)) (ap (λ (v : PartyView). v.party) step.view)
-    (subst (λ l. All (λ (c : Call). c.number < length before.history) l) (sym same_calls) (stands.calls party inside))
+    (subst (λ l. All (CallStands setting.fabric before.history party) l) (sym same_calls) (stands.calls party inside))
     (each_port setting party before after stands step.frame step.port [] (same_calls ∙ sym (append-nil (before.folk party).calls)) (λ other ne. ap (taken_at other) (append-nil (before.folk party).calls))
     (λ other ne. ap (λ (v : PartyView). port_of v other) step.view ∙ port_else (before.folk party) step.port other _ ne) states (λ other ne. datas other)
     (λ spec found.
@@ -107,7 +108,7 @@ see_state_keeps setting party before after inside stands step =
     let datas : (other : ℕ) → data_at setting after other ≡ data_at setting before other = λ other. ap (λ ws. slice_index ws (data_place setting.fabric other)) step.words in
     let same_calls : (after.folk party).calls ≡ (before.folk party).calls = ap (λ (v : PartyView). v.calls) step.view in
     party_keeps setting party before after stands step.frame (ap length step.words) (λ place low. ap (λ ws. slice_index ws place) step.words) (λ other one. (states other, datas other)) (ap (λ (v : PartyView). v.party) step.view)
-    (subst (λ l. All (λ (c : Call). c.number < length before.history) l) (sym same_calls) (stands.calls party inside))
+    (subst (λ l. All (CallStands setting.fabric before.history party) l) (sym same_calls) (stands.calls party inside))
     (each_port setting party before after stands step.frame step.port [] (same_calls ∙ sym (append-nil (before.folk party).calls)) (λ other ne. ap (taken_at other) (append-nil (before.folk party).calls))
     (λ other ne. ap (λ (v : PartyView). port_of v other) step.view ∙ port_else (party_after_load (before.folk party) (state_place setting.fabric step.port) (state_at setting before step.port)) step.port other _ ne) (λ other ne. states other)
     (λ other ne. datas other)
@@ -125,7 +126,7 @@ see_got_keeps setting party before after inside stands step =
     let datas : (other : ℕ) → data_at setting after other ≡ data_at setting before other = λ other. ap (λ ws. slice_index ws (data_place setting.fabric other)) step.words in
     let same_calls : (after.folk party).calls ≡ (before.folk party).calls = ap (λ (v : PartyView). v.calls) step.view in
     party_keeps setting party before after stands step.frame (ap length step.words) (λ place low. ap (λ ws. slice_index ws place) step.words) (λ other one. (states other, datas other)) (ap (λ (v : PartyView). v.party) step.view)
-    (subst (λ l. All (λ (c : Call). c.number < length before.history) l) (sym same_calls) (stands.calls party inside))
+    (subst (λ l. All (CallStands setting.fabric before.history party) l) (sym same_calls) (stands.calls party inside))
     (each_port setting party before after stands step.frame step.port [] (same_calls ∙ sym (append-nil (before.folk party).calls)) (λ other ne. ap (taken_at other) (append-nil (before.folk party).calls))
     (λ other ne. ap (λ (v : PartyView). port_of v other) step.view ∙ port_else (party_after_load (before.folk party) (data_place setting.fabric step.port) (data_at setting before step.port)) step.port other _ ne) (λ other ne. states other)
     (λ other ne. datas other)
@@ -135,15 +136,6 @@ see_got_keeps setting party before after inside stands step =
     (data_at setting before step.port) (states step.port) (datas step.port) (before.folk party).calls same_calls spec found
     (one_sees_got (own_now setting party before stands step.port step.own spec) step.number step.value (own_stands setting party before stands step.port step.own spec found) step.seen step.real step.code)))
     inside
-
--- the places of a port have numbers of the history
-places_below : (port first : ℕ) (entries : List Entry) → All (λ (p : ℕ × Value). p.0 < first + length entries) (places_of port first entries)
-places_below port first [] = All-nil (λ (p : ℕ × Value). p.0 < first + 0)
-places_below port first (entry ∷ entries) = go (datum_at entry port) (λ k d lt. let low = places_below port (first + 1) entries k d lt in omega (arith, low))
-  where
-    go : (datum : Option Value) → All (λ (p : ℕ × Value). p.0 < first + length (entry ∷ entries)) (places_of port (first + 1) entries) → All (λ (p : ℕ × Value). p.0 < first + length (entry ∷ entries)) (with_datum first datum (places_of port (first + 1) entries))
-    go None rest = rest
-    go (Some v) rest = All-cons (λ (p : ℕ × Value). p.0 < first + length (entry ∷ entries)) (first, v) (places_of port (first + 1) entries) (omega arith) rest
 
 pub all_last : {A : Type 0} (P : A → Type 0) (xs : List A) (x : A) → All P (xs ++ x ∷ []) → P x
 all_last P [] x all = All-head P x [] all
@@ -178,13 +170,20 @@ clear_keeps setting party before after inside stands step =
     let at : step.port < length setting.fabric.ports = within setting party before stands step.port step.own in
     let answered = own_answered setting party before stands step.port step.own step.number step.seen in
     let same_number : step.number ≡ answered.number = answered.seen step.number step.seen in
-    let low : answered.number < 0 + length before.history =
-    all_last (λ (p : ℕ × Value). p.0 < 0 + length before.history) (taken_at step.port (before.folk party).calls) (answered.number, answered.value)
-    (subst (λ l. All (λ (p : ℕ × Value). p.0 < 0 + length before.history) l) answered.place.last (places_below step.port 0 before.history)) in
+    let place : Placed step.port 0 before.history (answered.number, answered.value) =
+    all_last (Placed step.port 0 before.history) (taken_at step.port (before.folk party).calls) (answered.number, answered.value)
+    (subst (λ l. All (Placed step.port 0 before.history) l) answered.place.last (in_history step.port 0 before.history)) in
+    let same_value : step.value ≡ answered.value = answered.datum step.value step.datum in
+    let stands_there : CallStands setting.fabric before.history party call = record {
+      own = step.own;
+      entry = place.entry;
+      found = ap (slice_get before.history) (omega (arith, same_number, place.numbered)) ∙ place.found;
+      datum = place.datum ∙ ap Some (sym same_value);
+    } in
     party_keeps setting party before after stands step.frame (length_else before.words after.words _ _ step.words) (λ place below. word_else before.words after.words _ _ place step.words (λ same. omega (arith, below, same)))
     (noted_else setting before after step.port (λ one_is. omega (arith, one_is, answered.state)) states (λ other ne. datas other)) (ap (λ (v : PartyView). v.party) step.view)
-    (subst (λ l. All (λ (c : Call). c.number < length before.history) l) (sym collected)
-    (All-push (λ (c : Call). c.number < length before.history) (before.folk party).calls call (stands.calls party inside) (omega (arith, same_number, low))))
+    (subst (λ l. All (CallStands setting.fabric before.history party) l) (sym collected)
+    (All-push (CallStands setting.fabric before.history party) (before.folk party).calls call (stands.calls party inside) stands_there))
     (each_port setting party before after stands step.frame step.port (record { port = step.port; value = step.value; number = step.number } ∷ []) collected (λ other ne. taken_else other (before.folk party).calls call ne)
     (λ other ne. ap (λ (v : PartyView). port_of v other) step.view ∙ port_else (record (before.folk party) { calls = (before.folk party).calls ++ answered_call step.port (known_of before party step.port).seen (known_of before party step.port).datum }) step.port other _ ne) states (λ other ne. datas other)
     (λ spec found.

@@ -2,7 +2,7 @@
 use Rattle.std.proofs.Common.{◌≡◌, ℕ, zero, suc, ◌+◌, ◌*◌, ◌<◌, ◌⊎◌, ⊎_elim, inl, inr, Bool, true, false, cond, [], List, ◌∷◌, ◌++◌, map, length, slice_get, slice_index, nat_eq, All, Option, Some, None, IfSome, refl, sym, ap, ◌∙◌, subst, arith, length-append}
 use Rattle.std.proofs.lemmas.Bool.{cases_eq}
 use Rattle.std.proofs.lemmas.Bool.Decides.{eqb_tells}
-use Rattle.std.proofs.lemmas.List.Elements.{All-nil}
+use Rattle.std.proofs.lemmas.List.Elements.{All-nil, All-weaker}
 use Rattle.std.proofs.lemmas.Option.{same_Some, slice_get_within, get_or_from_slice_get}
 use Rattle.reo_value.specs.declared.value.Value.{Value}
 use Rattle.reo_value.specs.declared.op.Way.{Way}
@@ -25,9 +25,10 @@ use Rattle.reo_coupling.specs.Views.{after_commit}
 use Rattle.reo_coupling.specs.PortViews.{ports_after_commit}
 use Rattle.reo_coupling.specs.Parts.{view_of}
 use Rattle.reo_coupling.specs.Ports.{first_some, datum_at, with_datum, places_of, taken_at, PortNow, PortStands}
-use Rattle.reo_coupling.specs.PortParts.{ports_of, known_at, calls_of, state_at, data_at, port_now, PortsStand, IsPortOf, OffersStand, OffersAreNoted, OwesNothing, IsStoring, StoresComeFirst, AnswerIsOfTheLast, AnswersAreOfTheLast, CallsAreNumbered}
+use Rattle.reo_coupling.specs.PortParts.{ports_of, known_at, calls_of, state_at, data_at, port_now, PortsStand, IsPortOf, OffersStand, OffersAreNoted, OwesNothing, IsStoring, StoresComeFirst, AnswerIsOfTheLast, AnswersAreOfTheLast, CallStands, CallsStand}
 use Rattle.reo_coupling.specs.Steps.{Commits, noted, word_or_zero}
 use Rattle.reo_coupling.specs.Whole.{StandsFor, KeepsPortParts}
+use Rattle.reo_coupling.proofs.Places.{get_longer}
 use Rattle.reo_coupling.proofs.Commit.{code_is_above, none_else}
 use Rattle.reo_coupling.proofs.Frames.{word_else}
 use Rattle.reo_coupling.proofs.OnePort.{none_some, same_port, one_commits}
@@ -156,7 +157,8 @@ module _ (setting : Setting) (region : ℕ) (before after : Moment) (inside : re
       let within = slice_get_within setting.fabric.ports port spec found in
       let at_spec = subst (λ (s : PortSpec). IfSome s.owner (λ p. p < setting.fabric.parties)) (get_or_from_slice_get setting.fabric.ports port spec spec found) (stands.sized.fabric.owners port spec within) in
       let there : party < setting.fabric.parties = subst (λ (o : Option ℕ). IfSome o (λ p. p < setting.fabric.parties)) is at_spec in
-      subst (λ n. All (λ (c : Call). c.number < n) (before.folk party).calls) (sym stands.counted.count) (stands.calls party there)
+      All-weaker (CallStands setting.fabric before.history party) (λ (c : Call). c.number < slice_index before.words 0)
+      (λ c call. let low = slice_get_within before.history c.number call.entry call.found in omega (arith, stands.counted.count, low)) (before.folk party).calls (stands.calls party there)
 
   places_here : (port : ℕ) → places_of port 0 after.history ≡ places_of port 0 before.history ++ with_datum (slice_index before.words 0) (datum_at step.entry port) []
   places_here port = ap (places_of port 0) step.history ∙ places_more port 0 before.history step.entry (slice_index before.words 0) (omega (arith, stands.counted.count))
@@ -279,10 +281,17 @@ module _ (setting : Setting) (region : ℕ) (before after : Moment) (inside : re
       })
       stands.answers
 
-  pub commit_calls : CallsAreNumbered setting after
+  pub commit_calls : CallsStand setting after
   commit_calls party within =
-      let longer : length before.history + 1 ≡ length after.history = omega (arith, ap length step.history, length-append before.history (step.entry ∷ [])) in
-      subst (λ (f : ℕ → PartyView). All (λ (c : Call). c.number < length after.history) (f party).calls) (sym step.parties) (λ k d lt. let low = stands.calls party within k d lt in omega (arith, low, longer))
+      subst (λ (f : ℕ → PartyView). All (CallStands setting.fabric after.history party) (f party).calls) (sym step.parties)
+      (All-weaker (CallStands setting.fabric before.history party) (CallStands setting.fabric after.history party)
+      (λ c call. record {
+        own = call.own;
+        entry = call.entry;
+        found = ap (λ h. slice_get h c.number) step.history ∙ get_longer before.history (step.entry ∷ []) c.number call.entry call.found;
+        datum = call.datum;
+      })
+      (before.folk party).calls (stands.calls party within))
 
 pub commit_ports : KeepsPortParts Commits
 commit_ports = record {

@@ -14,7 +14,7 @@ use Rattle.reo_coupling.specs.declared.view.PortsView.{PortsView}
 use Rattle.reo_coupling.specs.declared.view.RegionView.{RegionView}
 use Rattle.reo_coupling.specs.Moment.{Setting, Moment}
 use Rattle.reo_coupling.specs.Ports.{places_of, taken_at}
-use Rattle.reo_coupling.specs.PortParts.{known_at, calls_of, state_at, data_at, port_now, PortsStand, IsPortOf, OffersStand, OffersAreNoted, OwesNothing, IsStoring, StoresComeFirst, PortDuesAreOfTheLast, AnswersAreOfTheLast, CallsAreNumbered, PartiesAreNamed, IsLast}
+use Rattle.reo_coupling.specs.PortParts.{known_at, calls_of, state_at, data_at, port_now, PortsStand, IsPortOf, OffersStand, OffersAreNoted, OwesNothing, IsStoring, StoresComeFirst, PortDuesAreOfTheLast, AnswersAreOfTheLast, CallStands, CallsStand, PartiesAreNamed, IsLast}
 use Rattle.reo_coupling.specs.Steps.{OthersStay}
 use Rattle.reo_coupling.proofs.OnePort.{same_port}
 
@@ -96,7 +96,7 @@ module _ (setting : Setting) (region : ℕ) (before after : Moment) (now : Regio
         (ap (λ f. known_at f spec.owner port) parties) (ap (λ f. calls_of f spec.owner) parties) (ap (λ f. taken_at port (calls_of f spec.owner)) parties) (ap (places_of port 0) history)
         (part_stays (λ view. at_place view.ports.gots_due port) (gots port) spec.region) (part_stays (λ view. at_place view.ports.answers_due port) (answers port) spec.region) (stand port spec found)
 
-  pub calls_stay : after.history ≡ before.history → CallsAreNumbered setting before → CallsAreNumbered setting after
-  calls_stay history numbered party within =
-      subst (λ (f : ℕ → PartyView). All (λ (c : Call). c.number < length after.history) (f party).calls) (sym parties)
-      (subst (λ (h : List Entry). All (λ (c : Call). c.number < length h) (before.folk party).calls) (sym history) (numbered party within))
+  pub calls_stay : after.history ≡ before.history → CallsStand setting before → CallsStand setting after
+  calls_stay history stand party within =
+      subst (λ (f : ℕ → PartyView). All (CallStands setting.fabric after.history party) (f party).calls) (sym parties)
+      (subst (λ (h : List Entry). All (CallStands setting.fabric h party) (before.folk party).calls) (sym history) (stand party within))

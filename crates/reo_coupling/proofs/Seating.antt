@@ -101,8 +101,8 @@ module _ (setting : Setting) (book : ℕ → RegionView) (folk : ℕ → PartyVi
     first = root_stays id (seat.Region old) (seat.Region new) found (region_no_root old);
     only = only_stays id (seat.Region new) (region_no_root new);
     limit = tells.limit;
-    regions = kind_steps seat.Region region_name (fresh_region setting.limit) setting.fabric.regions region_injective tells.root.regions book views tells.regions id old new found same named;
-    parties = kind_stays seat.Party party_name fresh_party setting.fabric.parties party_injective tells.root.parties folk views tells.parties (set views id (seat.Region new))
+    regions = kind_steps seat.Region region_name (fresh_region setting.limit) setting.fabric.regions region_injective tells.root.regions tells.root.regions_home book views tells.regions id old new found same named;
+    parties = kind_stays seat.Party party_name fresh_party setting.fabric.parties party_injective tells.root.parties tells.root.parties_home folk views tells.parties (set views id (seat.Region new))
         (same_set seat.Party views id (seat.Region old) (seat.Region new) found (region_no_party old) (region_no_party new));
   }
 
@@ -113,9 +113,9 @@ module _ (setting : Setting) (book : ℕ → RegionView) (folk : ℕ → PartyVi
     first = root_stays id (seat.Party old) (seat.Party new) found (party_no_root old);
     only = only_stays id (seat.Party new) (party_no_root new);
     limit = tells.limit;
-    regions = kind_stays seat.Region region_name (fresh_region setting.limit) setting.fabric.regions region_injective tells.root.regions book views tells.regions (set views id (seat.Party new))
+    regions = kind_stays seat.Region region_name (fresh_region setting.limit) setting.fabric.regions region_injective tells.root.regions tells.root.regions_home book views tells.regions (set views id (seat.Party new))
         (same_set seat.Region views id (seat.Party old) (seat.Party new) found (party_no_region old) (party_no_region new));
-    parties = kind_steps seat.Party party_name fresh_party setting.fabric.parties party_injective tells.root.parties folk views tells.parties id old new found same named;
+    parties = kind_steps seat.Party party_name fresh_party setting.fabric.parties party_injective tells.root.parties tells.root.parties_home folk views tells.parties id old new found same named;
   }
 
   -- the root's seat changes, and another is added
@@ -153,9 +153,9 @@ module _ (setting : Setting) (book : ℕ → RegionView) (folk : ℕ → PartyVi
       only = more_only (after_split root region) (seat.Region (fresh_region root.limit region)) (region_no_root (fresh_region root.limit region));
       limit = limit_is;
       regions = subst
-          (λ (m : RootView). KindTells seat.Region region_name (fresh_region setting.limit) setting.fabric.regions (set m.regions region Out) book (set views id (seat.Root (after_split root region)) ++ seat.Region (fresh_region root.limit region) ∷ []))
+          (λ (m : RootView). KindTells seat.Region region_name (fresh_region setting.limit) setting.fabric.regions (set m.regions region Out) m.regions_home book (set views id (seat.Root (after_split root region)) ++ seat.Region (fresh_region root.limit region) ∷ []))
           root_is
-          (kind_splits seat.Region region_name (fresh_region setting.limit) setting.fabric.regions region_injective tells.root.regions book views tells.regions region (length (set views id (seat.Root (after_split root region))))
+          (kind_splits seat.Region region_name (fresh_region setting.limit) setting.fabric.regions region_injective tells.root.regions tells.root.regions_home book views tells.regions region (length (set views id (seat.Root (after_split root region))))
           (set views id (seat.Root (after_split root region)) ++ seat.Region (fresh_region root.limit region) ∷ []) inside (ap (λ (m : RootView). mark_at m region) root_is ∙ fresh)
           (λ j view there. get_longer (set views id (seat.Root (after_split root region))) _ j (seat.Region view) ((of_regions (after_split root region)).kept j view there))
           (λ j view there.
@@ -163,9 +163,9 @@ module _ (setting : Setting) (book : ℕ → RegionView) (folk : ℕ → PartyVi
           (get_more (set views id (seat.Root (after_split root region))) (seat.Region (fresh_region root.limit region)) (seat.Region view) j there))
           (get_last (set views id (seat.Root (after_split root region))) _ ∙ ap (λ n. Some (seat.Region (fresh_region n region))) limit_is) refl);
       parties = subst
-          (λ (m : RootView). KindTells seat.Party party_name fresh_party setting.fabric.parties m.parties folk (set views id (seat.Root (after_split root region)) ++ seat.Region (fresh_region root.limit region) ∷ []))
+          (λ (m : RootView). KindTells seat.Party party_name fresh_party setting.fabric.parties m.parties m.parties_home folk (set views id (seat.Root (after_split root region)) ++ seat.Region (fresh_region root.limit region) ∷ []))
           root_is
-          (kind_stays seat.Party party_name fresh_party setting.fabric.parties party_injective tells.root.parties folk views tells.parties _
+          (kind_stays seat.Party party_name fresh_party setting.fabric.parties party_injective tells.root.parties tells.root.parties_home folk views tells.parties _
           (same_both seat.Party views (set views id (seat.Root (after_split root region))) _ (of_parties (after_split root region))
           (same_more seat.Party (set views id (seat.Root (after_split root region))) (seat.Region (fresh_region root.limit region)) (region_no_party (fresh_region root.limit region)))));
     }
@@ -177,15 +177,15 @@ module _ (setting : Setting) (book : ℕ → RegionView) (folk : ℕ → PartyVi
       only = more_only (after_party_split root party) (seat.Party (fresh_party party)) (party_no_root (fresh_party party));
       limit = limit_is;
       regions = subst
-          (λ (m : RootView). KindTells seat.Region region_name (fresh_region setting.limit) setting.fabric.regions m.regions book (set views id (seat.Root (after_party_split root party)) ++ seat.Party (fresh_party party) ∷ []))
+          (λ (m : RootView). KindTells seat.Region region_name (fresh_region setting.limit) setting.fabric.regions m.regions m.regions_home book (set views id (seat.Root (after_party_split root party)) ++ seat.Party (fresh_party party) ∷ []))
           root_is
-          (kind_stays seat.Region region_name (fresh_region setting.limit) setting.fabric.regions region_injective tells.root.regions book views tells.regions _
+          (kind_stays seat.Region region_name (fresh_region setting.limit) setting.fabric.regions region_injective tells.root.regions tells.root.regions_home book views tells.regions _
           (same_both seat.Region views (set views id (seat.Root (after_party_split root party))) _ (of_regions (after_party_split root party))
           (same_more seat.Region (set views id (seat.Root (after_party_split root party))) (seat.Party (fresh_party party)) (party_no_region (fresh_party party)))));
       parties = subst
-          (λ (m : RootView). KindTells seat.Party party_name fresh_party setting.fabric.parties (set m.parties party Out) folk (set views id (seat.Root (after_party_split root party)) ++ seat.Party (fresh_party party) ∷ []))
+          (λ (m : RootView). KindTells seat.Party party_name fresh_party setting.fabric.parties (set m.parties party Out) m.parties_home folk (set views id (seat.Root (after_party_split root party)) ++ seat.Party (fresh_party party) ∷ []))
           root_is
-          (kind_splits seat.Party party_name fresh_party setting.fabric.parties party_injective tells.root.parties folk views tells.parties party (length (set views id (seat.Root (after_party_split root party))))
+          (kind_splits seat.Party party_name fresh_party setting.fabric.parties party_injective tells.root.parties tells.root.parties_home folk views tells.parties party (length (set views id (seat.Root (after_party_split root party))))
           (set views id (seat.Root (after_party_split root party)) ++ seat.Party (fresh_party party) ∷ []) inside (ap (λ (m : RootView). party_mark_at m party) root_is ∙ fresh)
           (λ j view there. get_longer (set views id (seat.Root (after_party_split root party))) _ j (seat.Party view) ((of_parties (after_party_split root party)).kept j view there))
           (λ j view there.
@@ -216,17 +216,17 @@ module _ (setting : Setting) (book : ℕ → RegionView) (folk : ℕ → PartyVi
       only = home_only other (after_join root view) (seat.Region view) at_other (region_no_root view);
       limit = limit_is;
       regions = subst
-          (λ (m : RootView). KindTells seat.Region region_name (fresh_region setting.limit) setting.fabric.regions (set m.regions view.cells.region (Home view)) book (set (set views id (seat.Root (after_join root view))) other seat.Spent))
+          (λ (m : RootView). KindTells seat.Region region_name (fresh_region setting.limit) setting.fabric.regions (set m.regions view.cells.region Home) (view ∷ m.regions_home) book (set (set views id (seat.Root (after_join root view))) other seat.Spent))
           root_is
-          (kind_joins seat.Region region_name (fresh_region setting.limit) setting.fabric.regions region_injective tells.root.regions book views tells.regions other view
+          (kind_joins seat.Region region_name (fresh_region setting.limit) setting.fabric.regions region_injective tells.root.regions tells.root.regions_home book views tells.regions other view
           (set (set views id (seat.Root (after_join root view))) other seat.Spent) at_other named
           (λ j v ne there. set_else (set views id (seat.Root (after_join root view))) other j seat.Spent ne ∙ (of_regions (after_join root view)).kept j v there)
           (λ j v there.
           ⊎_elim (λ here. absurd (spent_no_region v here.1)) (λ rest. (rest.0, (of_regions (after_join root view)).came j v rest.1)) (get_set (set views id (seat.Root (after_join root view))) other j seat.Spent (seat.Region v) there)));
       parties = subst
-          (λ (m : RootView). KindTells seat.Party party_name fresh_party setting.fabric.parties m.parties folk (set (set views id (seat.Root (after_join root view))) other seat.Spent))
+          (λ (m : RootView). KindTells seat.Party party_name fresh_party setting.fabric.parties m.parties m.parties_home folk (set (set views id (seat.Root (after_join root view))) other seat.Spent))
           root_is
-          (kind_stays seat.Party party_name fresh_party setting.fabric.parties party_injective tells.root.parties folk views tells.parties _
+          (kind_stays seat.Party party_name fresh_party setting.fabric.parties party_injective tells.root.parties tells.root.parties_home folk views tells.parties _
           (same_both seat.Party views (set views id (seat.Root (after_join root view))) _ (of_parties (after_join root view))
           (same_set seat.Party (set views id (seat.Root (after_join root view))) other (seat.Region view) seat.Spent (still_there other (after_join root view) (seat.Region view) at_other (region_no_root view)) (region_no_party view) spent_no_party)));
     }
@@ -239,15 +239,15 @@ module _ (setting : Setting) (book : ℕ → RegionView) (folk : ℕ → PartyVi
       only = home_only other (after_party_join root view) (seat.Party view) at_other (party_no_root view);
       limit = limit_is;
       regions = subst
-          (λ (m : RootView). KindTells seat.Region region_name (fresh_region setting.limit) setting.fabric.regions m.regions book (set (set views id (seat.Root (after_party_join root view))) other seat.Spent))
+          (λ (m : RootView). KindTells seat.Region region_name (fresh_region setting.limit) setting.fabric.regions m.regions m.regions_home book (set (set views id (seat.Root (after_party_join root view))) other seat.Spent))
           root_is
-          (kind_stays seat.Region region_name (fresh_region setting.limit) setting.fabric.regions region_injective tells.root.regions book views tells.regions _
+          (kind_stays seat.Region region_name (fresh_region setting.limit) setting.fabric.regions region_injective tells.root.regions tells.root.regions_home book views tells.regions _
           (same_both seat.Region views (set views id (seat.Root (after_party_join root view))) _ (of_regions (after_party_join root view))
           (same_set seat.Region (set views id (seat.Root (after_party_join root view))) other (seat.Party view) seat.Spent (still_there other (after_party_join root view) (seat.Party view) at_other (party_no_root view)) (party_no_region view) spent_no_region)));
       parties = subst
-          (λ (m : RootView). KindTells seat.Party party_name fresh_party setting.fabric.parties (set m.parties view.party (Home view)) folk (set (set views id (seat.Root (after_party_join root view))) other seat.Spent))
+          (λ (m : RootView). KindTells seat.Party party_name fresh_party setting.fabric.parties (set m.parties view.party Home) (view ∷ m.parties_home) folk (set (set views id (seat.Root (after_party_join root view))) other seat.Spent))
           root_is
-          (kind_joins seat.Party party_name fresh_party setting.fabric.parties party_injective tells.root.parties folk views tells.parties other view
+          (kind_joins seat.Party party_name fresh_party setting.fabric.parties party_injective tells.root.parties tells.root.parties_home folk views tells.parties other view
           (set (set views id (seat.Root (after_party_join root view))) other seat.Spent) at_other named
           (λ j v ne there. set_else (set views id (seat.Root (after_party_join root view))) other j seat.Spent ne ∙ (of_parties (after_party_join root view)).kept j v there)
           (λ j v there.
@@ -256,20 +256,30 @@ module _ (setting : Setting) (book : ℕ → RegionView) (folk : ℕ → PartyVi
 
 pub keeps_the_rule : (Step : Setting → ℕ → Moment → Moment → Type 0) → KeepsEachPart Step → KeepsTheRule Step
 keeps_the_rule Step each setting words later views id old new history rule found same step = record {
-  history = history;
-  book = with_view rule.book new;
-  folk = rule.folk;
-  stands = whole Step each setting old.cells.region (moment_of words rule.history rule.book rule.folk) (moment_of later history (with_view rule.book new) rule.folk) (rule.tells.regions.seats id old found).within rule.stands step;
-  tells = region_steps setting rule.book rule.folk views rule.tells id old new found same rule.stands.named.regions;
+  rule = record {
+    history = history;
+    book = with_view rule.book new;
+    folk = rule.folk;
+    stands =
+        whole Step each setting old.cells.region (moment_of words rule.history rule.book rule.folk) (moment_of later history (with_view rule.book new) rule.folk)
+        (rule.tells.regions.seats id old found).within rule.stands step;
+    tells = region_steps setting rule.book rule.folk views rule.tells id old new found same rule.stands.named.regions;
+  };
+  same = refl;
 }
 
 pub party_keeps_the_rule : (Step : Setting → ℕ → Moment → Moment → Type 0) → PartyKeeps Step → PartyKeepsTheRule Step
 party_keeps_the_rule Step keeps setting words later views id old new rule found same step = record {
-  history = rule.history;
-  book = rule.book;
-  folk = with_party rule.folk new;
-  stands = keeps setting old.party (moment_of words rule.history rule.book rule.folk) (moment_of later rule.history rule.book (with_party rule.folk new)) (rule.tells.parties.seats id old found).within rule.stands step;
-  tells = party_steps setting rule.book rule.folk views rule.tells id old new found same rule.stands.parties;
+  rule = record {
+    history = rule.history;
+    book = rule.book;
+    folk = with_party rule.folk new;
+    stands =
+        keeps setting old.party (moment_of words rule.history rule.book rule.folk) (moment_of later rule.history rule.book (with_party rule.folk new))
+        (rule.tells.parties.seats id old found).within rule.stands step;
+    tells = party_steps setting rule.book rule.folk views rule.tells id old new found same rule.stands.parties;
+  };
+  same = refl;
 }
 
 pub splitting_keeps_the_rule : SplittingKeepsTheRule

@@ -1,4 +1,4 @@
--- What the words say once all seats are home: one history explains all that the seats know.
+-- What the words say: one history explains all that the seats know which came home to the root.
 use Rattle.std.specs.Prelude.{◌≡◌, ℕ, ◌+◌, ◌<◌, ◌⊎◌, List, length, slice_index, slice_get, All, Some}
 use Rattle.reo_value.specs.declared.value.Value.{Value}
 use Rattle.reo_value.specs.declared.op.Way.{Way}
@@ -15,14 +15,15 @@ use Rattle.reo_coupling.specs.declared.view.PartyView.{PartyView}
 use Rattle.reo_coupling.specs.declared.view.PortView.{PortView}
 use Rattle.reo_coupling.specs.declared.view.RegionView.{RegionView}
 use Rattle.reo_coupling.specs.declared.view.RootView.{RootView}
-use Rattle.reo_coupling.specs.declared.view.Mark.TheVariants.{Home}
+use Rattle.reo_coupling.specs.declared.view.Mark.TheVariants.{Fresh, Out}
 use Rattle.reo_coupling.specs.declared.view.View.{View}
 use Rattle.reo_coupling.specs.declared.view.View.TheVariants as seat
 use Rattle.reo_coupling.specs.Moment.{Setting, cell_place}
 use Rattle.reo_coupling.specs.Ports.{places_of, taken_at, HasPlace, ArePaired}
 use Rattle.reo_coupling.specs.Parts.{entries_of, NothingDue}
-use Rattle.reo_coupling.specs.PortParts.{known_at, calls_of}
-use Rattle.reo_coupling.specs.Seats.{mark_at, party_mark_at, IsCoupled}
+use Rattle.reo_coupling.specs.PortViews.{fresh_party}
+use Rattle.reo_coupling.specs.PortParts.{known_at, calls_of, CallStands}
+use Rattle.reo_coupling.specs.Seats.{fresh_region, region_name, party_name, mark_at, party_mark_at, IsAmong, IsKnownBy, IsCoupled}
 
 -- The call that stands has the port's last place in the history, after all that its party had collected when it offered.
 pub record HasTheLastPlace (way : Way) (known : PortView) (calls : List Call) (taken places : List (ℕ × Value)) : Type 0 where
@@ -44,32 +45,46 @@ state_by setting history = state_after (first_state setting.fabric) history
 
 -- no region has a store to a cell due
 abbrev pub NoCellIsDue : Setting → (ℕ → RegionView) → Type 0
-NoCellIsDue setting regions = (region : ℕ) → region < setting.fabric.regions → NothingDue (regions region).cells
+NoCellIsDue setting book = (region : ℕ) → region < setting.fabric.regions → NothingDue (book region).cells
 
--- The history is lawful and explains what the seats know: each region's list has its entries of the history with their numbers,
--- and each port's places are the calls there.
-pub record Explains (setting : Setting) (regions : ℕ → RegionView) (parties : ℕ → PartyView) (history : List Entry) : Type 0 where
+-- The history is lawful and explains what the regions and the parties know: each region's list has its entries of the history
+-- with their numbers, each call that a party collected stands in it, and each port's places are the calls there.
+pub record Explains (setting : Setting) (book : ℕ → RegionView) (folk : ℕ → PartyView) (history : List Entry) : Type 0 where
   pub few : length history < setting.limit + setting.fabric.regions
   pub of_regions : All (λ entry. entry.region < setting.fabric.regions) history
   pub lawful : IsLawfulHistory (first_state setting.fabric) history
-  pub lists : (region : ℕ) → region < setting.fabric.regions → (regions region).cells.entries ≡ entries_of region 0 history
-  pub calls : (party : ℕ) → party < setting.fabric.parties → All (λ call. call.number < length history) (parties party).calls
+  pub lists : (region : ℕ) → region < setting.fabric.regions → (book region).cells.entries ≡ entries_of region 0 history
+  pub calls : (party : ℕ) → party < setting.fabric.parties → All (CallStands setting.fabric history party) (folk party).calls
   pub ports : (port : ℕ) (spec : PortSpec) → slice_get setting.fabric.ports port ≡ Some spec
-      → HasItsPlaces spec.way (known_at parties spec.owner port) (calls_of parties spec.owner) (taken_at port (calls_of parties spec.owner)) (places_of port 0 history)
+      → HasItsPlaces spec.way (known_at folk spec.owner port) (calls_of folk spec.owner) (taken_at port (calls_of folk spec.owner)) (places_of port 0 history)
 
 -- The commit word is the length of the history. Where no store to a cell is due, the cells' words show the state that it leaves.
-pub record ShowsHistory (setting : Setting) (words : List ℕ) (regions : ℕ → RegionView) (history : List Entry) : Type 0 where
+pub record ShowsHistory (setting : Setting) (words : List ℕ) (book : ℕ → RegionView) (history : List Entry) : Type 0 where
   pub count : slice_index words 0 ≡ length history
   pub values : AreValues (state_by setting history)
-  pub cells : NoCellIsDue setting regions → (cell : ℕ) → cell < length setting.fabric.cells → slice_index words (cell_place setting.fabric cell) ≡ cell_word (content_at (state_by setting history) cell)
+  pub cells : NoCellIsDue setting book → (cell : ℕ) → cell < length setting.fabric.cells → slice_index words (cell_place setting.fabric cell) ≡ cell_word (content_at (state_by setting history) cell)
 
--- All seats came home to the root, with these views.
-pub record AreHome (setting : Setting) (root : RootView) (regions : ℕ → RegionView) (parties : ℕ → PartyView) : Type 0 where
-  pub of_regions : (region : ℕ) → region < setting.fabric.regions → mark_at root region ≡ Home (regions region)
-  pub of_parties : (party : ℕ) → party < setting.fabric.parties → party_mark_at root party ≡ Home (parties party)
+-- The books have what each seat knew that came home to the root, and of a seat that was never made that it knows nothing.
+pub record AreBooks (setting : Setting) (root : RootView) (book : ℕ → RegionView) (folk : ℕ → PartyView) : Type 0 where
+  pub regions : (view : RegionView) → IsAmong root.regions_home view → IsKnownBy region_name setting.fabric.regions book view
+  pub parties : (view : PartyView) → IsAmong root.parties_home view → IsKnownBy party_name setting.fabric.parties folk view
+  pub no_region : (region : ℕ) → region < setting.fabric.regions → mark_at root region ≡ Fresh → book region ≡ fresh_region setting.limit region
+  pub no_party : (party : ℕ) → party < setting.fabric.parties → party_mark_at root party ≡ Fresh → folk party ≡ fresh_party party
 
--- Where all seats are home, the history of the rule explains the words and all that the seats knew.
+-- No region's seat is out, and those that came home have no store to a cell due.
+pub record AreHome (setting : Setting) (root : RootView) : Type 0 where
+  pub none_out : (region : ℕ) → region < setting.fabric.regions → mark_at root region ≡ Out → ⊥
+  pub quiet : (view : RegionView) → IsAmong root.regions_home view → NothingDue view.cells
+
+-- One history explains the words and all that the seats knew which came home to the root.
+pub record ExplainsAll (setting : Setting) (words : List ℕ) (root : RootView) (book : ℕ → RegionView) (folk : ℕ → PartyView) (history : List Entry) : Type 0 where
+  pub books : AreBooks setting root book folk
+  pub history_explains : Explains setting book folk history
+  pub words_show : ShowsHistory setting words book history
+  pub nothing_due : AreHome setting root → NoCellIsDue setting book
+
+-- Whenever the rule holds, its history and its books do so.
 abbrev pub OneHistoryExplainsAll : Type 0
 OneHistoryExplainsAll =
-    (setting : Setting) (words : List ℕ) (views : List View) (id : ℕ) (root : RootView) (regions : ℕ → RegionView) (parties : ℕ → PartyView) (rule : IsCoupled setting words views)
-    → slice_get views id ≡ Some (seat.Root root) → AreHome setting root regions parties → Explains setting regions parties rule.history × ShowsHistory setting words regions rule.history
+    (setting : Setting) (words : List ℕ) (views : List View) (id : ℕ) (root : RootView) (rule : IsCoupled setting words views) → slice_get views id ≡ Some (seat.Root root)
+    → ExplainsAll setting words root rule.book rule.folk rule.history

@@ -16,7 +16,7 @@ first_words fabric = (replicate (1 + fabric.regions) 0 ++ map (λ spec. cell_wor
 
 -- no seat is made yet
 abbrev pub first_root : Setting → RootView
-first_root setting = record { limit = setting.limit; regions = replicate setting.fabric.regions Fresh; parties = replicate setting.fabric.parties Fresh }
+first_root setting = record { limit = setting.limit; regions = replicate setting.fabric.regions Fresh; parties = replicate setting.fabric.parties Fresh; regions_home = []; parties_home = [] }
 
 -- The first words and the root's first view are coupled.
 abbrev pub OpensCoupled : Type 0

@@ -10,14 +10,8 @@ use Rattle.reo_coupling.specs.declared.view.PartyView.{PartyView}
 use Rattle.reo_coupling.specs.declared.view.PortView.{PortView}
 use Rattle.reo_coupling.specs.Moment.{Setting, Moment, state_place, data_place}
 use Rattle.reo_coupling.specs.PortViews.{port_of, after_set_put, after_offer, after_see_state, after_see_got, after_clear}
-use Rattle.reo_coupling.specs.PortParts.{state_at, data_at}
+use Rattle.reo_coupling.specs.PortParts.{state_at, data_at, IsOwned}
 use Rattle.reo_coupling.specs.Whole.{StandsFor}
-
--- the party owns the port
-pub record IsOwned (fabric : Fabric) (party port : ℕ) : Type 0 where
-  pub spec : PortSpec
-  pub found : slice_get fabric.ports port ≡ Some spec
-  pub owner : spec.owner ≡ Some party
 
 -- the party owns the put port
 pub record IsOwnedPut (fabric : Fabric) (party port : ℕ) : Type 0 where

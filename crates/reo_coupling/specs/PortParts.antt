@@ -3,6 +3,7 @@ use Rattle.std.specs.Prelude.{◌≡◌, ℕ, ◌<◌, ◌⊎◌, List, [], ◌�
 use Rattle.reo_value.specs.declared.value.Value.{Value}
 use Rattle.reo_value.specs.declared.op.Way.{Way}
 use Rattle.reo_value.specs.declared.op.Way.TheVariants.{Put, Get}
+use Rattle.reo_fabric.specs.declared.entry.Entry.{Entry}
 use Rattle.reo_fabric.specs.declared.entry.Numbered.{Numbered}
 use Rattle.reo_fabric.specs.declared.fabric.Fabric.{Fabric}
 use Rattle.reo_fabric.specs.declared.fabric.PortSpec.{PortSpec}
@@ -128,9 +129,22 @@ pub record PortDuesAreOfTheLast (fabric : Fabric) (region : ℕ) (view : RegionV
 abbrev pub AnswersAreOfTheLast : Setting → Moment → Type 0
 AnswersAreOfTheLast setting moment = (region : ℕ) → region < setting.fabric.regions → PortDuesAreOfTheLast setting.fabric region (moment.book region)
 
--- The calls that a party collected have numbers of the history.
-abbrev pub CallsAreNumbered : Setting → Moment → Type 0
-CallsAreNumbered setting moment = (party : ℕ) → party < setting.fabric.parties → All (λ call. call.number < length moment.history) (moment.folk party).calls
+-- the party owns the port
+pub record IsOwned (fabric : Fabric) (party port : ℕ) : Type 0 where
+  pub spec : PortSpec
+  pub found : slice_get fabric.ports port ≡ Some spec
+  pub owner : spec.owner ≡ Some party
+
+-- The call is at a port that the party owns, and the entry of the history with its number has the port with its value.
+pub record CallStands (fabric : Fabric) (history : List Entry) (party : ℕ) (call : Call) : Type 0 where
+  pub own : IsOwned fabric party call.port
+  pub entry : Entry
+  pub found : slice_get history call.number ≡ Some entry
+  pub datum : datum_at entry call.port ≡ Some call.value
+
+-- The calls that each party collected stand in the history.
+abbrev pub CallsStand : Setting → Moment → Type 0
+CallsStand setting moment = (party : ℕ) → party < setting.fabric.parties → All (CallStands setting.fabric moment.history party) (moment.folk party).calls
 
 -- Each party's view is its own.
 abbrev pub PartiesAreNamed : Setting → Moment → Type 0

@@ -2,7 +2,7 @@
 use Rattle.std.specs.Prelude.{ℕ, ◌<◌}
 use Rattle.reo_coupling.specs.Moment.{Setting, Moment}
 use Rattle.reo_coupling.specs.Parts.{HasItsWords, AreNamed, AreCounted, IsLawful, CellsShow, NotesStand, DuesAreOfTheLast, KeepsTheLimit, RoundsAreTold}
-use Rattle.reo_coupling.specs.PortParts.{PortsStand, OffersAreNoted, StoresComeFirst, AnswersAreOfTheLast, CallsAreNumbered, PartiesAreNamed}
+use Rattle.reo_coupling.specs.PortParts.{PortsStand, OffersAreNoted, StoresComeFirst, AnswersAreOfTheLast, CallsStand, PartiesAreNamed}
 
 -- The words and views at a moment stand for its history.
 pub record StandsFor (setting : Setting) (moment : Moment) : Type 0 where
@@ -19,7 +19,7 @@ pub record StandsFor (setting : Setting) (moment : Moment) : Type 0 where
   pub offers : OffersAreNoted setting moment
   pub stores : StoresComeFirst setting moment
   pub answers : AnswersAreOfTheLast setting moment
-  pub calls : CallsAreNumbered setting moment
+  pub calls : CallsStand setting moment
   pub parties : PartiesAreNamed setting moment
 
 -- where the words stand for the history before a step of a region, the part holds after it
@@ -45,7 +45,7 @@ pub record KeepsPortParts (Step : Setting → ℕ → Moment → Moment → Type
   pub offers : KeepsPart Step OffersAreNoted
   pub stores : KeepsPart Step StoresComeFirst
   pub answers : KeepsPart Step AnswersAreOfTheLast
-  pub calls : KeepsPart Step CallsAreNumbered
+  pub calls : KeepsPart Step CallsStand
   pub parties : KeepsPart Step PartiesAreNamed
 
 -- A step keeps each part. So after it the words stand for the history again.

@@ -105,20 +105,23 @@ pub struct PartyView {
     pub loads: [(u64, u64); 0],
 }
 
-/// Whether the seat of a number is not made yet, or out with some thread, or joined into the root again with what it knew.
-#[derive(Drop)]
-pub enum Mark<W: Drop> {
+/// Whether the seat of a number is not made yet, or out with some thread, or joined into the root again.
+#[derive(Clone, Copy, Debug, PartialEq, Eq)]
+pub enum Mark {
     Fresh,
     Out,
-    Home(W),
+    Home,
 }
 
-/// What the root knows: the limit, and how it stands with the seat of each region and of each party.
+/// What the root knows: the limit, how it stands with the seat of each region and of each party, and what the seats knew that
+/// came home.
 #[derive(Drop)]
 pub struct RootView {
     pub limit: u64,
-    pub regions: [Mark<RegionView>; 0],
-    pub parties: [Mark<PartyView>; 0],
+    pub regions: [Mark; 0],
+    pub parties: [Mark; 0],
+    pub regions_home: [RegionView; 0],
+    pub parties_home: [PartyView; 0],
 }
 
 /// What a seat knows.

@@ -1,8 +1,9 @@
 -- What an answered call leaves.
-use Rattle.std.proofs.Common.{◌≡◌, ℕ, ◌+◌, ◌-◌, ◌<◌, ◌≤◌, Bool, true, false, List, [], ◌∷◌, ◌++◌, set, get_or, slice_get, nat_lt, Option, Some, None, refl, sym, ap, ◌∙◌, subst, arith}
+use Rattle.std.proofs.Common.{◌≡◌, ℕ, ◌+◌, ◌-◌, ◌<◌, ◌≤◌, Bool, true, false, List, [], ◌∷◌, ◌++◌, set, get_or, slice_get, nat_lt, All, Option, Some, None, refl, sym, ap, ◌∙◌, subst, arith}
 use Rattle.std.specs.Option.{is_some}
 use Rattle.atomic_table.specs.Seated.{TableId}
 use Rattle.std.proofs.lemmas.Option.{same_Some}
+use Rattle.std.proofs.lemmas.List.Elements.{All-push}
 use Rattle.reo_value.specs.declared.value.Value.{Value}
 use Rattle.reo_value.specs.Code.{code_of, IsValue}
 use Rattle.reo_fabric.proofs.CodeLemmas.{codes_differ}
@@ -10,7 +11,7 @@ use Rattle.reo_value.specs.declared.op.Op.{Op}
 use Rattle.reo_value.specs.declared.op.Way.{Way}
 use Rattle.reo_coupling.specs.declared.view.Call.{Call}
 use Rattle.reo_coupling.specs.declared.view.Offer.{Offer}
-use Rattle.reo_coupling.specs.PartySteps.{IsOwned}
+use Rattle.reo_coupling.specs.PortParts.{IsOwned, CallStands}
 use Rattle.reo_coupling.specs.declared.view.PartyView.{PartyView}
 use Rattle.reo_coupling.specs.declared.view.PortView.{PortView}
 use Rattle.reo_coupling.specs.Moment.{Setting, state_place, data_place}
@@ -57,14 +58,32 @@ module _ (setting : Setting) (v0 v1 v2 v3 : PartyView) (port s word : ℕ) (valu
       ap (λ (v : PartyView). port_of v other) looked
       ∙ (port_else (party_after_load v1 (data_place setting.fabric port) word) port other _ ne ∙ (ap (λ (v : PartyView). port_of v other) read ∙ port_else (party_after_load v0 (state_place setting.fabric port) s) port other _ ne))
 
+  abbrev call_of : Value → ℕ → Call
+  call_of found number = record { port = port; value = found; number = number }
+
+  -- the calls with this one, which the party collects
+  calls_with : (found : Value) → value ≡ found → v3 ≡ after_clear v2 port → v3.calls ≡ v0.calls ++ call_of found (s - 3) ∷ []
+  calls_with found is cleared =
+      ap (λ (v : PartyView). v.calls) cleared
+      ∙ (ap (λ (l : List Call). v2.calls ++ l) (call_is port _ _ (s - 3) value seen_two datum_two)
+      ∙ (ap (λ (l : List Call). l ++ call_of value (s - 3) ∷ []) calls_two ∙ ap (λ (v : Value). v0.calls ++ call_of v (s - 3) ∷ []) is))
+
+  party_is : v3 ≡ after_clear v2 port → v3.party ≡ v1.party
+  party_is cleared = ap (λ (v : PartyView). v.party) cleared ∙ ap (λ (v : PartyView). v.party) looked
+
+  stand_with : (found : Value) → value ≡ found → v3 ≡ after_clear v2 port → All (CallStands setting.fabric answered.history v3.party) v3.calls
+  stand_with found is cleared =
+      subst (λ p. All (CallStands setting.fabric answered.history p) v3.calls) (sym (party_is cleared))
+      (subst (λ (l : List Call). All (CallStands setting.fabric answered.history v1.party) l) (sym (calls_with found is cleared))
+      (All-push (CallStands setting.fabric answered.history v1.party) v0.calls (call_of found (s - 3))
+      (subst (λ (l : List Call). All (CallStands setting.fabric answered.history v1.party) l) calls_one answered.calls)
+      (subst (CallStands setting.fabric answered.history v1.party) (ap (call_of value) number_is ∙ ap (λ v. call_of v (s - 3)) is) answered.stands)))
+
   pub collected : (found : Value) → IsValue found → code_of found ≡ word → v3 ≡ after_clear v2 port → IsAnswer setting v0 v3 port found (s - 3)
   collected found real code cleared =
-      let is : value ≡ found = codes_differ value found answered.real real (sym answered.code ∙ sym code) in
+      let is : value ≡ found = codes_differ value found answered.is_value real (sym answered.code ∙ sym code) in
       record {
-        calls =
-            ap (λ (v : PartyView). v.calls) cleared
-            ∙ (ap (λ (l : List Call). v2.calls ++ l) (call_is port _ _ (s - 3) value seen_two datum_two)
-            ∙ (ap (λ (l : List Call). l ++ record { port = port; value = value; number = s - 3 } ∷ []) calls_two ∙ ap (λ (v : Value). v0.calls ++ record { port = port; value = v; number = s - 3 } ∷ []) is));
+        calls = calls_with found is cleared;
         idle = ap (λ (v : PartyView). (port_of v port).call) cleared ∙ ap (λ (k : PortView). k.call) (port_here (record v2 { calls = v2.calls ++ Rattle.reo_coupling.specs.PortViews.answered_call port (port_of v2 port).seen (port_of v2 port).datum }) port _);
         others = λ other ne.
             ap (λ (v : PartyView). port_of v other) cleared
@@ -74,12 +93,10 @@ module _ (setting : Setting) (v0 v1 v2 v3 : PartyView) (port s word : ℕ) (valu
             ∙ (ap (λ (v : PartyView). v.loads) looked
             ∙ (ap (λ (l : List (ℕ × ℕ)). l ++ (data_place setting.fabric port, word) ∷ []) (ap (λ (v : PartyView). v.loads) read)
             ∙ (ap (λ (n : ℕ). loads_with n word) (omega (arith, high)) ∙ ap (λ (w : ℕ). loads_with (3 + (s - 3)) w) (sym code))));
-        party = ap (λ (v : PartyView). v.party) cleared ∙ (ap (λ (v : PartyView). v.party) looked ∙ ap (λ (v : PartyView). v.party) read);
+        party = party_is cleared ∙ ap (λ (v : PartyView). v.party) read;
         history = answered.history;
-        lawful = answered.lawful;
-        entry = answered.entry;
-        found = ap (slice_get answered.history) (sym number_is) ∙ answered.found;
-        datum = answered.datum ∙ ap Some is;
+        real = answered.real;
+        stand = stand_with found is cleared;
         offer = answered.offer;
         called = ap (λ (k : PortView). k.call) (sym at_one) ∙ answered.called;
         later = subst (λ n. Rattle.reo_coupling.specs.Ports.IsAfterItsPast v0.calls answered.offer n) number_is

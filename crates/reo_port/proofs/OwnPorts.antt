@@ -11,7 +11,8 @@ use Rattle.reo_fabric.specs.declared.fabric.Fabric.{Fabric}
 use Rattle.reo_coupling.specs.declared.view.Offer.{Offer}
 use Rattle.reo_coupling.specs.declared.view.PartyView.{PartyView}
 use Rattle.reo_coupling.specs.PortViews.{port_of}
-use Rattle.reo_coupling.specs.PartySteps.{IsOwned, IsOwnedPut}
+use Rattle.reo_coupling.specs.PartySteps.{IsOwnedPut}
+use Rattle.reo_coupling.specs.PortParts.{IsOwned}
 use Rattle.reo_table.specs.Shared.{WordsState}
 use Rattle.reo_port.specs.declared.party.PortRefusal.{PortRefusal}
 use Rattle.reo_port.specs.Party.{PartyValue, way_of_owner, ways_of, IsPartyOf, way_at, standing, put_of, refused, refusal_of, call_at, AreNoted}

@@ -10,7 +10,8 @@ use Rattle.reo_coupling.specs.declared.view.Offer.{Offer}
 use Rattle.reo_coupling.specs.declared.view.PartyView.{PartyView}
 use Rattle.reo_coupling.specs.declared.view.PortView.{PortView}
 use Rattle.reo_coupling.specs.PortViews.{port_of, after_set_put, after_offer}
-use Rattle.reo_coupling.specs.PartySteps.{IsOwned, IsOwnedPut, IsSetFor, IsReady}
+use Rattle.reo_coupling.specs.PartySteps.{IsOwnedPut, IsSetFor, IsReady}
+use Rattle.reo_coupling.specs.PortParts.{IsOwned}
 use Rattle.reo_coupling.proofs.PartyFrames.{port_here, port_else}
 use Rattle.reo_table.specs.Shared.{WordsState}
 use Rattle.reo_port.specs.Party.{PartyValue, IsPartyOf, way_at, standing, put_of, refusal_of, call_at, AreNoted}

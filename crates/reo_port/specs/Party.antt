@@ -1,5 +1,5 @@
 -- A party, as contracts see it, and what its calls answer.
-use Rattle.std.specs.Prelude.{◌≡◌, ◌≢◌, ℕ, ◌+◌, Bool, true, false, List, [], ◌∷◌, ◌++◌, length, map, slice_get, slice_index_or, Option, Some, None, nat_eq, if◌then◌else◌}
+use Rattle.std.specs.Prelude.{◌≡◌, ◌≢◌, ℕ, ◌+◌, Bool, true, false, List, [], ◌∷◌, ◌++◌, length, map, slice_get, slice_index_or, All, Option, Some, None, nat_eq, if◌then◌else◌}
 use Rattle.atomic_table.specs.Seated.{TableId}
 use Rattle.reo_value.specs.declared.value.Value.{Value}
 use Rattle.reo_value.specs.declared.op.Op.{Op}
@@ -8,15 +8,15 @@ use Rattle.reo_value.specs.declared.op.Way.{Way}
 use Rattle.reo_value.specs.declared.op.Way.TheVariants.{Put, Get}
 use Rattle.reo_value.specs.Code.{code_of, IsValue}
 use Rattle.reo_fabric.specs.declared.entry.Entry.{Entry}
-use Rattle.reo_fabric.specs.Fabric.{first_state}
-use Rattle.reo_fabric.specs.History.{IsLawfulHistory}
 use Rattle.reo_fabric.specs.declared.fabric.Fabric.{Fabric}
 use Rattle.reo_fabric.specs.declared.fabric.PortSpec.{PortSpec}
 use Rattle.reo_coupling.specs.declared.view.Offer.{Offer}
 use Rattle.reo_coupling.specs.declared.view.PartyView.{PartyView}
 use Rattle.reo_coupling.specs.Moment.{Setting, state_place, data_place}
 use Rattle.reo_coupling.specs.PortViews.{port_of, after_see_state}
-use Rattle.reo_coupling.specs.Ports.{datum_at, IsAfterItsPast, IsGiven}
+use Rattle.reo_coupling.specs.Ports.{IsAfterItsPast, IsGiven}
+use Rattle.reo_coupling.specs.PortParts.{CallStands}
+use Rattle.reo_table.specs.History.{IsHistory}
 use Rattle.reo_table.specs.Shared.{WordsState}
 use Rattle.reo_port.specs.declared.party.Collected.{Collected}
 use Rattle.reo_port.specs.declared.party.Collected.TheVariants.{Answered, Waiting, NoCall}
@@ -84,8 +84,9 @@ pub record AreNoted (ways : List (Option Way)) (view : PartyView) (calls : List 
   pub each : (port : ℕ) → slice_index_or calls port None ≡ standing (slice_index_or ways port None) port (port_of view port).call
   pub puts : (port : ℕ) (offer : Offer) → slice_index_or ways port None ≡ Some Put → (port_of view port).call ≡ Some offer → offer.value ≡ None → ⊥
 
--- The party's call at a port was answered with this value, and is collected. Its entry has this number in a lawful history; the
--- number is above those of all calls that the party had collected when it made the offer, and a put's value is what was offered.
+-- The party's call at a port was answered with this value, and is collected. There is a history in which all calls that the
+-- party collected stand, this one with its number; the number is above those of all calls that the party had collected when it
+-- made the offer, and a put's value is what was offered.
 pub record IsAnswer (setting : Setting) (old new : PartyView) (port : ℕ) (value : Value) (number : ℕ) : Type 0 where
   pub calls : new.calls ≡ old.calls ++ record { port = port; value = value; number = number } ∷ []
   pub idle : (port_of new port).call ≡ None
@@ -94,10 +95,8 @@ pub record IsAnswer (setting : Setting) (old new : PartyView) (port : ℕ) (valu
   pub loads : new.loads ≡ (old.loads ++ (state_place setting.fabric port, 3 + number) ∷ []) ++ (data_place setting.fabric port, code_of value) ∷ []
   pub party : new.party ≡ old.party
   pub history : List Entry
-  pub lawful : IsLawfulHistory (first_state setting.fabric) history
-  pub entry : Entry
-  pub found : slice_get history number ≡ Some entry
-  pub datum : datum_at entry port ≡ Some value
+  pub real : IsHistory setting history
+  pub stand : All (CallStands setting.fabric history new.party) new.calls
   pub offer : Offer
   pub called : (port_of old port).call ≡ Some offer
   pub later : IsAfterItsPast old.calls offer number

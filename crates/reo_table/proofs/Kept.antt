@@ -28,12 +28,16 @@ use Rattle.reo_coupling.proofs.EachPart.{begin_keeps, clock_keeps, see_cell_keep
 use Rattle.reo_coupling.proofs.Store.{same_field, taken_off, filled_off}
 use Rattle.reo_coupling.proofs.Fresh.{owes_no_first}
 use Rattle.reo_coupling.proofs.Seating.{keeps_the_rule, splitting_keeps_the_rule, view_here, view_else}
-use Rattle.reo_table.specs.History.{HasHistory, IsNumbered, SaysWhatIsHeld}
+use Rattle.reo_table.specs.History.{IsHistory, HasHistory, IsNumbered, SaysWhatIsHeld}
 use Rattle.reo_table.specs.Plays.{region_of, root_of, Begun, Clocked, Seen, PortSeen, OfferSeen, Committed, Stored, GotStored, PortAnswered}
 use Rattle.reo_table.proofs.Views.{found}
 
 abbrev pub Rule : {S : Type 0} → Setting → State S View → Type 0
 Rule setting state = IsCoupled setting state.words state.views
+
+-- the history of the rule
+pub is_history : (setting : Setting) (words : List ℕ) (views : List View) (rule : IsCoupled setting words views) → IsHistory setting rule.history
+is_history setting words views rule = record { few = omega (arith, rule.stands.limit); regions = rule.stands.counted.regions; lawful = rule.stands.lawful.history }
 
 module _ {S : Type 0} (setting : Setting) (slots id : ℕ) (me : Me S View) (is : me.0 ≡ Region (region_of me.0)) (no_slot : me.1 ≡ []) where
   -- A step that keeps the rule on plain data is allowed, where the word becomes f of what was found, and the view `new` of it.
@@ -52,7 +56,7 @@ module _ {S : Type 0} (setting : Setting) (slots id : ℕ) (me : Me S View) (is 
         Region (new n),
         keeps,
         tt,
-        law setting s.words (slice_set s.words i (f n)) s.views id (region_of me.0) (new n) (later rule.history) rule here (same n) step.0,
+        (law setting s.words (slice_set s.words i (f n)) s.views id (region_of me.0) (new n) (later rule.history) rule here (same n) step.0).rule,
         subst (λ l. then n (Region (new n), l)) (sym no_slot) step.1,
       )
 
@@ -101,10 +105,8 @@ module _ {S : Type 0} (setting : Setting) (slots id : ℕ) (me : Me S View) (is 
           (owes_no_first setting (moment_of words rule.history rule.book rule.folk) (region_of me.0).cells.region rule.stands within (ap (λ (v : RegionView). v.cells.entries) known ∙ none));
     };
     history = rule.history;
+    real = is_history setting words views rule;
     counted = sym rule.stands.counted.count;
-    few = omega (arith, rule.stands.counted.count, rule.stands.limit);
-    regions = rule.stands.counted.regions;
-    lawful = rule.stands.lawful.history;
     mine = mine words views rule within known;
   }
 
@@ -112,7 +114,7 @@ module _ {S : Type 0} (setting : Setting) (slots id : ℕ) (me : Me S View) (is 
       → SaysWhatIsHeld setting (region_of me.0).cells cell (slice_index words (cell_place setting.fabric cell))
   says_what_is_held cell quiet words views rule within known = record {
     history = rule.history;
-    lawful = rule.stands.lawful.history;
+    real = is_history setting words views rule;
     mine = mine words views rule within known;
     held = λ lasts.
         (read_stands setting (moment_of words rule.history rule.book rule.folk) (region_of me.0).cells.region cell (slice_index words (cell_place setting.fabric cell)) rule.stands.cells
@@ -130,8 +132,11 @@ module _ {S : Type 0} (setting : Setting) (slots id : ℕ) (me : Me S View) (is 
       record {
         earlier = rule.history;
         counted = rule.stands.counted.count;
-        few = omega (arith, rule.stands.counted.count, rule.stands.limit);
-        lawful = (commit_keeps.of_cells.lawful setting (region_of me.0).cells.region before after within rule.stands step).history;
+        real = record {
+          few = omega (arith, commit_keeps.of_cells.limit setting (region_of me.0).cells.region before after within rule.stands step);
+          regions = (commit_keeps.of_cells.counted setting (region_of me.0).cells.region before after within rule.stands step).regions;
+          lawful = (commit_keeps.of_cells.lawful setting (region_of me.0).cells.region before after within rule.stands step).history;
+        };
         mine =
             ap (λ (v : RegionView). v.cells.entries) (sym (view_here rule.book (region_after_commit (region_of me.0) (slice_index words 0) entry) (region_of me.0).cells.region refl))
             ∙ (commit_keeps.of_cells.counted setting (region_of me.0).cells.region before after within rule.stands step).lists (region_of me.0).cells.region within;

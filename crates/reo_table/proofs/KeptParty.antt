@@ -11,7 +11,8 @@ use Rattle.reo_coupling.specs.declared.view.View.{View}
 use Rattle.reo_coupling.specs.declared.view.View.TheVariants.{Root, Party}
 use Rattle.reo_coupling.specs.Moment.{Setting, Moment, state_place, data_place}
 use Rattle.reo_coupling.specs.PortViews.{port_of, fresh_party, after_set_put, after_offer, after_see_state, after_see_got, after_clear}
-use Rattle.reo_coupling.specs.PartySteps.{IsOwned, IsOwnedPut, IsReady, IsOfParty, SetsPut, MakesOffer, SeesState, SeesGot, Clears}
+use Rattle.reo_coupling.specs.PartySteps.{IsOwnedPut, IsReady, IsOfParty, SetsPut, MakesOffer, SeesState, SeesGot, Clears}
+use Rattle.reo_coupling.specs.PortParts.{IsOwned}
 use Rattle.reo_coupling.specs.Seats.{moment_of, with_party, IsCoupled, PartyKeepsTheRule, party_mark_at, after_party_split}
 use Rattle.reo_coupling.proofs.PartySteps.{set_put_keeps, offer_keeps, see_state_keeps, see_got_keeps, clear_keeps}
 use Rattle.reo_coupling.proofs.Seating.{party_keeps_the_rule, party_splitting_keeps_the_rule, party_here, party_else}
@@ -42,7 +43,7 @@ module _ {S : Type 0} (setting : Setting) (slots id : ℕ) (me : Me S View) (is 
         Party done.new,
         keeps,
         tt,
-        law setting s.words (slice_set s.words i (f n)) s.views id (party_of me.0) done.new rule here done.same done.step,
+        (law setting s.words (slice_set s.words i (f n)) s.views id (party_of me.0) done.new rule here done.same done.step).rule,
         subst (λ l. then n (Party done.new, l)) (sym no_slot) done.tells,
       )
 
@@ -124,7 +125,7 @@ module _ {S : Type 0} (setting : Setting) (slots id : ℕ) (me : Me S View) (is 
       let before : Moment = moment_of words rule.history rule.book rule.folk in
       let noted : (port_of (rule.folk (party_of me.0).party) port).seen ≡ Some number = ap (λ (v : PartyView). (port_of v port).seen) known ∙ seen in
       let value : Value = (got setting (party_of me.0).party (moment_of words rule.history rule.book rule.folk) rule.stands port own number noted).value in
-      let told = answered_with setting (party_of me.0).party (moment_of words rule.history rule.book rule.folk) rule.stands port own number noted in
+      let told = answered_with setting (party_of me.0).party (moment_of words rule.history rule.book rule.folk) rule.stands port own number noted within in
       let new : PartyView = after_see_got (party_of me.0) port (data_place setting.fabric port) (slice_index words (data_place setting.fabric port)) value in
       record {
         new = new;
@@ -135,7 +136,7 @@ module _ {S : Type 0} (setting : Setting) (slots id : ℕ) (me : Me S View) (is 
           number = number;
           seen = noted;
           value = value;
-          real = told.real;
+          real = told.is_value;
           code = told.code;
           words = set-get_or words (data_place setting.fabric port) 0;
           view = view_is rule.folk new (λ v. after_see_got v port (data_place setting.fabric port) (slice_index words (data_place setting.fabric port)) value) refl known refl;

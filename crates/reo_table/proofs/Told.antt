@@ -6,8 +6,8 @@ use Rattle.reo_value.specs.declared.op.Way.{Way}
 use Rattle.reo_fabric.specs.declared.fabric.PortSpec.{PortSpec}
 use Rattle.reo_coupling.specs.Moment.{Setting, Moment}
 use Rattle.reo_coupling.specs.Ports.{places_of, taken_at, PortNow, PortStands, IsAnswered, IsGiven}
-use Rattle.reo_coupling.specs.PortParts.{state_at, data_at}
-use Rattle.reo_coupling.specs.PartySteps.{IsOwned, known_of}
+use Rattle.reo_coupling.specs.PortParts.{CallStands, state_at, data_at, IsOwned}
+use Rattle.reo_coupling.specs.PartySteps.{known_of}
 use Rattle.reo_coupling.specs.Whole.{StandsFor}
 use Rattle.reo_coupling.proofs.OnePort.{none_some}
 use Rattle.reo_coupling.proofs.PartySteps.{own_now, own_stands, own_idle, own_answered, all_last}
@@ -48,18 +48,19 @@ module _ (setting : Setting) (party : ℕ) (before : Moment) (stands : StandsFor
         all_last (Placed port 0 before.history) (taken_at port (before.folk party).calls) (got.number, got.value)
         (subst (λ l. All (Placed port 0 before.history) l) got.place.last (in_history port 0 before.history))
 
-    pub answered_with : IsAnsweredWith setting (before.folk party) port (data_at setting before port) got.value
+    pub answered_with : party < setting.fabric.parties → IsAnsweredWith setting (before.folk party) port (data_at setting before port) got.value
     unfolding own_now
-    answered_with = record {
+    answered_with inside = record {
       code = got.word;
-      real = got.place.real;
+      is_value = got.place.real;
       number = number;
       seen = seen;
       history = before.history;
-      lawful = stands.lawful.history;
-      entry = placed.entry;
-      found = ap (slice_get before.history) (omega (arith, number_is, placed.numbered)) ∙ placed.found;
-      datum = placed.datum;
+      real = record { few = omega (arith, stands.limit); regions = stands.counted.regions; lawful = stands.lawful.history };
+      calls = subst (λ p. All (CallStands setting.fabric before.history p) (before.folk party).calls) (sym (stands.parties party inside)) (stands.calls party inside);
+      stands =
+          subst (λ p. CallStands setting.fabric before.history p (record { port = port; value = got.value; number = number })) (sym (stands.parties party inside))
+          (record { own = own; entry = placed.entry; found = ap (slice_get before.history) (omega (arith, number_is, placed.numbered)) ∙ placed.found; datum = placed.datum });
       offer = got.offer;
       called = got.called.call;
       later = subst (λ n. Rattle.reo_coupling.specs.Ports.IsAfterItsPast (before.folk party).calls got.offer n) (sym number_is) got.place.later;

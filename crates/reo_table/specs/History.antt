@@ -13,10 +13,17 @@ use Rattle.reo_coupling.specs.declared.view.RegionView.{RegionView}
 use Rattle.reo_coupling.specs.declared.view.PartyView.{PartyView}
 use Rattle.reo_coupling.specs.declared.view.Offer.{Offer}
 use Rattle.reo_coupling.specs.PortViews.{port_of}
-use Rattle.reo_coupling.specs.Ports.{datum_at, IsAfterItsPast, IsGiven}
+use Rattle.reo_coupling.specs.Ports.{IsAfterItsPast, IsGiven}
 use Rattle.reo_coupling.specs.Moment.{Setting}
 use Rattle.reo_coupling.specs.Parts.{entries_of, IsLasting}
-use Rattle.reo_coupling.specs.PortParts.{OwesNothing}
+use Rattle.reo_coupling.specs.PortParts.{OwesNothing, CallStands}
+
+-- The history is lawful from the first cells, its entries are of regions, and it has fewer than the limit and the number of
+-- regions together.
+pub record IsHistory (setting : Setting) (history : List Entry) : Type 0 where
+  pub few : length history < setting.limit + setting.fabric.regions
+  pub regions : All (λ entry. entry.region < setting.fabric.regions) history
+  pub lawful : IsLawfulHistory (first_state setting.fabric) history
 
 -- The view is that of a region of this setting, and where the region has no entry, no store is due.
 pub record IsViewIn (setting : Setting) (view : RegionView) : Type 0 where
@@ -24,30 +31,26 @@ pub record IsViewIn (setting : Setting) (view : RegionView) : Type 0 where
   pub limit : view.cells.limit ≡ setting.limit
   pub fresh : view.cells.entries ≡ [] → OwesNothing view
 
--- There is a lawful history of this many entries of regions, fewer than the limit and the regions together, and the view has
--- its region's entries of it, with their numbers.
+-- There is a history of this many entries, and the view has its region's entries of it, with their numbers.
 pub record HasHistory (setting : Setting) (view : RegionView) (count : ℕ) : Type 0 where
   pub own : IsViewIn setting view
   pub history : List Entry
+  pub real : IsHistory setting history
   pub counted : length history ≡ count
-  pub few : count < setting.limit + setting.fabric.regions
-  pub regions : All (λ entry. entry.region < setting.fabric.regions) history
-  pub lawful : IsLawfulHistory (first_state setting.fabric) history
   pub mine : view.cells.entries ≡ entries_of view.cells.region 0 history
 
--- The entry has this number in a lawful history, in which it is the last, and the view has the region's entries of it, with
--- their numbers.
+-- The entry has this number in a history, in which it is the last, and the view has the region's entries of it, with their
+-- numbers.
 pub record IsNumbered (setting : Setting) (view : CellsView) (number : ℕ) (entry : Entry) : Type 0 where
   pub earlier : List Entry
   pub counted : number ≡ length earlier
-  pub few : number < setting.limit + setting.fabric.regions
-  pub lawful : IsLawfulHistory (first_state setting.fabric) (earlier ++ entry ∷ [])
+  pub real : IsHistory setting (earlier ++ entry ∷ [])
   pub mine : view.entries ≡ entries_of view.region 0 (earlier ++ entry ∷ [])
 
--- There is a lawful history, and where what the word says lasts, the state that it leaves has in the cell what the word says.
+-- There is a history, and where what the word says lasts, the state that it leaves has in the cell what the word says.
 pub record SaysWhatIsHeld (setting : Setting) (view : CellsView) (cell word : ℕ) : Type 0 where
   pub history : List Entry
-  pub lawful : IsLawfulHistory (first_state setting.fabric) history
+  pub real : IsHistory setting history
   pub mine : view.entries ≡ entries_of view.region 0 history
   pub held : IsLasting setting.fabric view.region cell word → cell_word (content_at (state_after (first_state setting.fabric) history) cell) ≡ word
 
@@ -58,19 +61,18 @@ pub record SaysHowItStands (view : PartyView) (port word : ℕ) : Type 0 where
   pub called : (offer : Offer) → (port_of view port).call ≡ Some offer → (word ≡ 1) ⊎ (3 ≤ word)
   pub seen : (number : ℕ) → (port_of view port).seen ≡ Some number → word ≡ 3 + number
 
--- The call at a port was answered with this value, whose code the word is. Its entry is in a lawful history at the number that
--- was read, which is above those of all calls that the party had collected when it made the offer. At a put the value is what
--- was offered.
+-- The call at a port was answered with this value, whose code the word is. There is a history in which all calls stand that the
+-- party collected, and this one with the number that was read. The number is above those of all calls that the party had
+-- collected when it made the offer, and at a put the value is what was offered.
 pub record IsAnsweredWith (setting : Setting) (view : PartyView) (port word : ℕ) (value : Value) : Type 0 where
   pub code : word ≡ code_of value
-  pub real : IsValue value
+  pub is_value : IsValue value
   pub number : ℕ
   pub seen : (port_of view port).seen ≡ Some number
   pub history : List Entry
-  pub lawful : IsLawfulHistory (first_state setting.fabric) history
-  pub entry : Entry
-  pub found : slice_get history number ≡ Some entry
-  pub datum : datum_at entry port ≡ Some value
+  pub real : IsHistory setting history
+  pub calls : All (CallStands setting.fabric history view.party) view.calls
+  pub stands : CallStands setting.fabric history view.party (record { port = port; value = value; number = number })
   pub offer : Offer
   pub called : (port_of view port).call ≡ Some offer
   pub later : IsAfterItsPast view.calls offer number

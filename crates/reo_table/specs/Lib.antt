@@ -3,3 +3,4 @@ pub mod History
 pub mod Plays
 pub mod Words
 pub mod Seat
+pub mod Closing

@@ -12,7 +12,7 @@ use Rattle.reo_value.specs.declared.value.Value.{Value}
 use Rattle.reo_coupling.specs.Views.{after_commit}
 use Rattle.reo_coupling.specs.PortViews.{fresh_party, after_set_put, after_offer, after_see_state, after_see_got, after_clear}
 use Rattle.reo_coupling.specs.RegionViews.{region_after_begin, region_after_clock, region_after_see_cell, region_after_see_port, region_after_see_offer, region_after_commit, region_after_set_cell, region_after_set_got, region_after_answer}
-use Rattle.reo_coupling.specs.Seats.{fresh_region}
+use Rattle.reo_coupling.specs.Seats.{fresh_region, after_join, after_party_join}
 use Rattle.reo_coupling.specs.Opening.{first_root}
 use Rattle.reo_table.specs.declared.rule.Key.{Key}
 use Rattle.reo_table.specs.History.{HasHistory, IsNumbered, SaysWhatIsHeld, SaysHowItStands, IsAnsweredWith}
@@ -101,3 +101,14 @@ pub record GotSeen {S : Type 0} (setting : Setting) (port place : ℕ) (before :
 
 abbrev pub Cleared : {S : Type 0} → ℕ → Me S View → ℕ → Me S View → Type 0
 Cleared port before word after = PartyLeaves (after_clear (party_of before.0) port) after
+
+-- the root where another seat came home
+abbrev pub root_with : RootView → View → RootView
+root_with root (Root other) = root
+root_with root (Region view) = after_join root view
+root_with root (Party view) = after_party_join root view
+root_with root Spent = root
+
+-- the seat with another joined into it, which the root's alone is
+abbrev pub joined : View → View → View
+joined view other = Root (root_with (root_of view) other)

@@ -2,12 +2,12 @@
 use Rattle.std.specs.Prelude.{◌≡◌, ℕ, ◌+◌, ◌<◌, ◌≤◌, ◌^◌, []}
 use Rattle.atomic_table.specs.Table.{Me}
 use Rattle.reo_coupling.specs.declared.view.View.{View}
-use Rattle.reo_coupling.specs.declared.view.View.TheVariants.{Region, Party}
+use Rattle.reo_coupling.specs.declared.view.View.TheVariants.{Root, Region, Party}
 use Rattle.reo_coupling.specs.declared.view.Stage.{Stage}
 use Rattle.reo_coupling.specs.declared.view.Stage.TheVariants.{UnderWay, Cleared}
 use Rattle.reo_table.specs.declared.clock.Clock.{Clock}
 use Rattle.reo_table.specs.declared.clock.Clock.TheVariants.{Clear, AtLimit}
-use Rattle.reo_table.specs.Plays.{region_of, party_of}
+use Rattle.reo_table.specs.Plays.{root_of, region_of, party_of}
 
 pub record IsRegionSeat {S : Type 0} (words : ℕ) (me : Me S View) (region round limit last : ℕ) : Type 0 where
   pub view : me.0 ≡ Region (region_of me.0)
@@ -19,6 +19,13 @@ pub record IsRegionSeat {S : Type 0} (words : ℕ) (me : Me S View) (region roun
   pub few : last < 2 ^ 62
   -- there is a word for its round
   pub within : 1 + region < words
+
+-- The root's seat: none came home to it yet.
+pub record IsRootSeat {S : Type 0} (me : Me S View) (limit : ℕ) : Type 0 where
+  pub view : me.0 ≡ Root (root_of me.0)
+  pub limit_is : limit ≡ (root_of me.0).limit
+  pub no_region : (root_of me.0).regions_home ≡ []
+  pub no_party : (root_of me.0).parties_home ≡ []
 
 pub record IsPartySeat {S : Type 0} (me : Me S View) : Type 0 where
   pub view : me.0 ≡ Party (party_of me.0)

@@ -3,6 +3,7 @@
 #![tactic(auto)]
 
 mod clock;
+mod closing;
 mod party_seat;
 mod region_seat;
 mod root;
@@ -11,6 +12,7 @@ mod threads;
 mod words;
 
 pub use clock::Clock;
+pub use closing::Final;
 pub use party_seat::PartySeat;
 pub use region_seat::RegionSeat;
 pub use root::Root;

@@ -2,7 +2,8 @@
 ghost use Rattle.std.specs.Prelude.{◌≡◌, ◌≢◌, None};
 ghost use Rattle.reo_value.specs.declared.op.Way.TheVariants.{Put};
 ghost use Rattle.reo_coupling.specs.PortViews.{port_of, after_set_put, after_offer, after_clear};
-ghost use Rattle.reo_coupling.specs.PartySteps.{IsOwned, IsOwnedPut, IsReady};
+ghost use Rattle.reo_coupling.specs.PartySteps.{IsOwnedPut, IsReady};
+ghost use Rattle.reo_coupling.specs.PortParts.{IsOwned};
 ghost use Rattle.reo_table.specs.History.{SaysHowItStands};
 ghost use Rattle.reo_table.specs.Shared.{party_knowing, after_state_look, GotLook};
 

@@ -20,8 +20,7 @@ pub struct Root {
 }
 
 impl Model for Root {
-    ghost use Rattle.std.specs.Prelude.{◌≡◌, []};
-    ghost use Rattle.reo_coupling.specs.declared.view.View.TheVariants.{Root as AnyRoot};
+    ghost use Rattle.reo_table.specs.Seat.{IsRootSeat};
     ghost use Rattle.reo_table.specs.Shared.{RootState};
     ghost use Rattle.reo_table.specs.Plays.{root_of};
 
@@ -29,7 +28,7 @@ impl Model for Root {
 
     ghost view = { λ r. record { id = r.seat.table_id; view = root_of r.seat.me.0 } };
 
-    ghost invariant = { λ r. (r.seat.me.0 ≡ AnyRoot (root_of r.seat.me.0)) × (r.limit ≡ (root_of r.seat.me.0).limit) };
+    ghost invariant = { λ r. IsRootSeat r.seat.me r.limit };
 }
 
 impl Root {

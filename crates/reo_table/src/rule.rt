@@ -1,6 +1,6 @@
 // The rule of the shared words, and the kinds of step.
 ghost use Rattle.std.specs.Prelude.{ℕ, []};
-ghost use Rattle.reo_coupling.specs.declared.view.View.TheVariants.{Root, Region, Party};
+ghost use Rattle.reo_coupling.specs.declared.view.View.TheVariants.{Root, Region, Party, Spent};
 ghost use Rattle.reo_coupling.specs.Seats.{IsCoupled, fresh_region, after_split, after_party_split};
 ghost use Rattle.reo_coupling.specs.PortViews.{fresh_party};
 ghost use Rattle.reo_value.specs.declared.value.Value.{Value as AnyValue};
@@ -10,10 +10,10 @@ ghost use Rattle.reo_coupling.specs.Opening.{first_root};
 ghost use Rattle.reo_fabric.specs.declared.entry.Entry.{Entry as AnyEntry};
 ghost use Rattle.reo_fabric.specs.Room.{empty_entry};
 ghost use Rattle.reo_coupling.specs.Moment.{Setting};
-ghost use Rattle.reo_table.specs.Plays.{setting_of, no_setting, root_of};
+ghost use Rattle.reo_table.specs.Plays.{setting_of, no_setting, root_of, joined};
 ghost use Rattle.reo_table.specs.Plays.{Begun, Clocked, Seen, PortSeen, OfferSeen, Committed, Stored, GotStored, PortAnswered};
 
-use atomic_table::{Play, Split, TableRule};
+use atomic_table::{Join, Play, Split, TableRule};
 use reo_coupling::View;
 use reo_fabric::Fabric;
 use std::marker::{Brand, PhantomData};
@@ -199,4 +199,12 @@ pub(crate) struct Clear<P: Place> {
 
 impl<P: Place> Play<(), View> for Clear<P> {
     ghost then = { λ step before word after. Cleared P.place before word after };
+}
+
+pub(crate) struct Welcome;
+
+impl Join<View> for Welcome {
+    ghost both = { λ view other. joined view other };
+
+    ghost spent = { Spent };
 }

@@ -25,9 +25,12 @@ pub struct Words {
     pub(crate) table: Table<(), View, Key, Coupled, Global>,
     pub(crate) regions: u32,
     pub(crate) cells: u32,
+    /// Where closing puts what is in the cells.
+    pub(crate) room: Vec<Option<Value>>,
 }
 
 impl Model for Words {
+    ghost use Rattle.std.specs.Prelude.{length};
     ghost use Rattle.reo_table.specs.Shared.{WordsState};
     ghost use Rattle.reo_table.specs.Words.{words_state, IsWords};
 
@@ -35,7 +38,7 @@ impl Model for Words {
 
     ghost view = { λ w. words_state w.table.shared.table_id w.table.shared.key };
 
-    ghost invariant = { λ w. IsWords w.table.shared.table_id w.table.shared.key w.regions w.cells };
+    ghost invariant = { λ w. IsWords w.table.shared.table_id w.table.shared.key w.regions w.cells (length w.room.items) };
 }
 
 impl Words {
@@ -47,6 +50,7 @@ impl Words {
         ensures { IfOk result (λ made. Opened fabric.now limit made.0 made.1) }
     {
         let words = words_of(alloc, fabric)?;
+        let room = first_cells(alloc, fabric)?;
         let key = Key {
             fabric: Snapshot::of(fabric),
             limit,
@@ -56,6 +60,7 @@ impl Words {
             table,
             regions: fabric.regions,
             cells: fabric.cells.as_slice().len() as u32,
+            room,
         };
         Ok((words, Root { seat, limit }))
     }
@@ -109,4 +114,13 @@ fn words_of(alloc: Global, fabric: &Fabric) -> Result<Vec<u64>, AllocError>
     let length = words.len() + 2 * fabric.ports.as_slice().len();
     words.resize(length, 0)?;
     Ok(words)
+}
+
+/// What is in the cells at the start.
+fn first_cells(alloc: Global, fabric: &Fabric) -> Result<Vec<Option<Value>>, AllocError>
+    ensures { IfOk result (λ cells. length cells.items ≡ length fabric.now.cells) }
+{
+    let mut cells = Vec::new(alloc);
+    cells.resize(fabric.cells.as_slice().len(), None)?;
+    Ok(cells)
 }

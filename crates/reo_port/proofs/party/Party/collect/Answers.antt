@@ -1,6 +1,6 @@
 use Rattle.std.proofs.Common.{◌≡◌, ℕ, List, Option, None, sym, ap, ◌∙◌, subst}
 use Rattle.reo_value.specs.declared.op.Op.{Op}
-use Rattle.reo_coupling.specs.PartySteps.{IsOwned}
+use Rattle.reo_coupling.specs.PortParts.{IsOwned}
 use Rattle.reo_table.specs.Shared.{PartyState}
 use Rattle.reo_port.specs.Party.{call_at, AreNoted}
 use Rattle.reo_port.proofs.Collecting.{stands_there, owned_there, answer_told, left, noted_none}

@@ -5,7 +5,8 @@ use Rattle.reo_value.specs.declared.value.Value.{Value}
 use Rattle.reo_value.specs.Code.{code_of}
 use Rattle.reo_coupling.specs.Moment.{Setting, state_place, data_place}
 use Rattle.reo_coupling.specs.PortViews.{port_of}
-use Rattle.reo_coupling.specs.PartySteps.{IsOwned, IsOwnedPut, IsReady}
+use Rattle.reo_coupling.specs.PartySteps.{IsOwnedPut, IsReady}
+use Rattle.reo_coupling.specs.PortParts.{IsOwned}
 use Rattle.reo_table.specs.Shared.{PartyState, WordsState}
 use Rattle.reo_table.specs.Plays.{setting_of, party_of, PutSet, OfferMade, StateSeen, GotSeen, Cleared}
 use Rattle.reo_table.proofs.Told.{some_of}

@@ -18,5 +18,5 @@ split_seat-seat-requires g c =
       same,
       omega (arith, c.words.invariant.words),
       subst (λ (k : ℕ). Splits (Rule (setting_of c.words.inside.table.shared.key)) c.self.inside.seat.id c.self.inside.seat.me.0 (Root (after_party_split (root_of c.self.inside.seat.me.0) k)) (Party (fresh_party k))) (sym c.requires.place)
-          (allows_party_split (setting_of c.words.inside.table.shared.key) c.self.inside.seat.id c.args.party c.self.inside.seat.me c.self.invariant.0 within fresh),
+          (allows_party_split (setting_of c.words.inside.table.shared.key) c.self.inside.seat.id c.args.party c.self.inside.seat.me c.self.invariant.view within fresh),
     )

@@ -16,5 +16,5 @@ split_seat-seat-requires g c =
       same,
       omega (arith, c.words.invariant.words),
       subst (λ (k : ℕ). Splits (Rule (setting_of c.words.inside.table.shared.key)) c.self.inside.seat.id c.self.inside.seat.me.0 (Root (after_split (root_of c.self.inside.seat.me.0) k)) (Region (fresh_region (root_of c.self.inside.seat.me.0).limit k))) (sym c.requires.place)
-          (allows_split (setting_of c.words.inside.table.shared.key) c.self.inside.seat.id c.args.region c.self.inside.seat.me c.self.invariant.0 within fresh),
+          (allows_split (setting_of c.words.inside.table.shared.key) c.self.inside.seat.id c.args.region c.self.inside.seat.me c.self.invariant.view within fresh),
     )
