@@ -50,6 +50,13 @@ impl Model for RegionSeat {
 }
 
 impl RegionSeat {
+    /// The number of the region.
+    pub fn region(&self) -> u32
+        ensures { result ≡ self.now.view.cells.region }
+    {
+        self.region
+    }
+
     /// Begins a round, and gives its number; the last number comes again. What was noted before is forgotten.
     pub fn begin(&mut self, words: &Words) -> u64
         requires own { self.old.id ≡ words.now.id }
