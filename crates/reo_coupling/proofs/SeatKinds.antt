@@ -224,7 +224,6 @@ module _ {W : Type 0} (wrap : W → View) (name : W → ℕ) (fresh : ℕ → W)
           };
       back = λ v among. from_home v among.place among.found;
     }
-
       where
         old_home : (v : W) → IsAmong home v → IsFromHome name count (set marks (name view) Home) book v
         old_home v among =

@@ -98,7 +98,11 @@ impl Words {
         ensures { IsReadOut self.setting (root_of seat.me.0) result.count result.cells.items }
     {
         let first = self.cell_index(0);
-        let Words { table, mut room, .. } = self;
+        let Words {
+            table,
+            mut room,
+            ..
+        } = self;
         let closed = table.close_with(seat);
         read_cells(&closed, first, &mut room);
         let count = closed.word(0);

@@ -215,7 +215,10 @@ fn a_put_is_handed_on_step_by_step(rt: HostRuntime) {
         .expect(&rt, "ample memory")
         .expect(&rt, "a commit");
     assert_eq!(rt; (row.round, row.commits), (1, 0));
-    assert_eq!(rt; (row.states, row.offer), ((1, 1), 9_223_372_036_854_775_811));
+    assert_eq!(rt;
+        (row.states, row.offer),
+        ((1, 1), 9_223_372_036_854_775_811)
+    );
     assert_eq!(rt; row.number, 0);
     assert_eq!(rt; try_collect(&words, &mut putter, 0), Collected::Waiting);
     answer_both(&words, &mut seat, &row);
