@@ -1,12 +1,10 @@
 -- All seats are home, and one history explains what they know.
-use Rattle.std.proofs.Common.{◌≡◌, ℕ, ◌+◌, ◌<◌, ◌⊎◌, inl, inr, ⊎_elim, [], List, length, get_or, slice_get, slice_index, All, Option, Some, None, IfSome, refl, sym, ap, ◌∙◌, subst, arith}
+use Rattle.std.proofs.Common.{◌≡◌, ℕ, ◌<◌, inl, inr, ⊎_elim, List, slice_get, slice_index, Option, Some, None, refl, sym, ap, ◌∙◌, subst, arith}
 use Rattle.std.proofs.lemmas.Option.{same_Some, slice_get_within, slice_get-get_or, get_or_from_slice_get}
 use Rattle.reo_value.specs.declared.value.Value.{Value}
 use Rattle.reo_fabric.specs.declared.fabric.CellSpec.{CellSpec}
-use Rattle.reo_fabric.specs.declared.fabric.PortSpec.{PortSpec}
 use Rattle.reo_fabric.specs.Entry.{at_place, content_at}
 use Rattle.reo_fabric.specs.Reading.{cell_word}
-use Rattle.reo_coupling.specs.declared.view.PartyView.{PartyView}
 use Rattle.reo_coupling.specs.declared.view.RegionView.{RegionView}
 use Rattle.reo_coupling.specs.declared.view.RootView.{RootView}
 use Rattle.reo_coupling.specs.declared.view.Mark.{Mark}
@@ -15,9 +13,9 @@ use Rattle.reo_coupling.specs.declared.view.View.{View}
 use Rattle.reo_coupling.specs.declared.view.View.TheVariants as seat
 use Rattle.reo_coupling.specs.Moment.{Setting, Moment, cell_place}
 use Rattle.reo_coupling.specs.PortViews.{fresh_party}
-use Rattle.reo_coupling.specs.Ports.{places_of, taken_at, PortNow, PortStands}
+use Rattle.reo_coupling.specs.Ports.{PortNow, PortStands}
 use Rattle.reo_coupling.specs.Parts.{NothingDue, Shows, fill_due, take_due, held_at, word_at}
-use Rattle.reo_coupling.specs.PortParts.{known_at, calls_of, port_now}
+use Rattle.reo_coupling.specs.PortParts.{port_now}
 use Rattle.reo_coupling.specs.Seats.{IsCoupled, moment_of, fresh_region, region_name, party_name, mark_at, IsAmong, MarkTells, KindTells}
 use Rattle.reo_coupling.specs.Home.{HasItsPlaces, NoCellIsDue, state_by, AreBooks, OneHistoryExplainsAll}
 use Rattle.reo_coupling.proofs.Seating.{root_injective}

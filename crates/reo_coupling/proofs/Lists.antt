@@ -2,15 +2,15 @@
 use Rattle.std.proofs.Common.{◌≡◌, ℕ, zero, suc, ◌+◌, ◌<◌, ◌≤◌, ◌⊎◌, inl, inr, ⊎_elim, Bool, true, false, cond, List, [], ◌∷◌, ◌++◌, length, nat_eq, Some, None, refl, sym, ap, ◌∙◌, subst, arith, append-nil}
 use Rattle.std.proofs.lemmas.Bool.{cases_eq, eq-eqb, ne_eqb}
 use Rattle.std.proofs.lemmas.Bool.Decides.{eqb_tells}
-use Rattle.reo_value.specs.declared.value.Value.{Value}
 use Rattle.reo_fabric.specs.declared.entry.Entry.{Entry}
 use Rattle.reo_fabric.specs.declared.entry.Numbered.{Numbered}
 use Rattle.reo_fabric.specs.Entry.{at_place, RisesFrom}
-use Rattle.reo_fabric.proofs.PlaceLemmas.{at_first, at_later, rises_from_below}
+use Rattle.reo_fabric.proofs.PlaceLemmas.{at_first, at_later, none_below, rises_from_below}
 use Rattle.reo_coupling.specs.declared.view.RegionView.{RegionView}
 use Rattle.reo_coupling.specs.declared.view.Stage.{Stage}
 use Rattle.reo_coupling.specs.declared.view.Stage.TheVariants.{Between, UnderWay, Cleared}
 use Rattle.reo_coupling.specs.Views.{without}
+use Rattle.reo_coupling.specs.PortParts.{AreOnce}
 use Rattle.reo_coupling.specs.Parts.{entries_of, clearance, cleared_below}
 
 module _ {A : Type 0} where
@@ -60,6 +60,19 @@ module _ {A : Type 0} where
       (λ is. subst (RisesFrom low) (sym (without_on c p places is.0)) (rises_from_below (without c places) low (p.0 + 1) (omega (arith, rise.0)) rest))
       (λ not. subst (RisesFrom low) (sym (without_off c p places not.0)) (rise.0, rest))
       (eqb_tells c p.0)
+
+  pub without_once : (c : ℕ) (places : List (ℕ × A)) → AreOnce places → AreOnce (without c places)
+  without_once c [] once = tt
+  without_once c (p ∷ places) once =
+      let rest = without_once c places once.1 in
+      ⊎_elim
+      (λ is. subst AreOnce (sym (without_on c p places is.0)) rest)
+      (λ not. subst AreOnce (sym (without_off c p places not.0)) (without_else c p.0 places (λ same. not.1 (sym same)) ∙ once.0, rest))
+      (eqb_tells c p.0)
+
+  pub rising_once : (places : List (ℕ × A)) (low : ℕ) → RisesFrom low places → AreOnce places
+  rising_once [] low rise = tt
+  rising_once (p ∷ places) low rise = (none_below places (p.0 + 1) p.0 rise.1 (omega arith), rising_once places (p.0 + 1) rise.1)
 
 -- what is at a place of a list with one place more at its end
 pub at_more : (places : List (ℕ × ℕ)) (c d w x : ℕ) → at_place (places ++ (c, w) ∷ []) d ≡ Some x → (at_place places d ≡ Some x) ⊎ ((d ≡ c) × (w ≡ x))

@@ -1,5 +1,5 @@
 -- One port: what each kind of its party's step makes of it.
-use Rattle.std.proofs.Common.{◌≡◌, ℕ, zero, suc, ◌+◌, ◌-◌, ◌<◌, ◌≤◌, ◌⊎◌, inl, inr, ⊎_elim, Bool, true, false, cond, List, [], ◌∷◌, ◌++◌, length, take, nat_lt, All, Option, Some, None, refl, sym, ap, ◌∙◌, subst, arith, length-append}
+use Rattle.std.proofs.Common.{◌≡◌, ℕ, zero, suc, ◌+◌, ◌-◌, ◌<◌, ◌≤◌, inl, inr, ⊎_elim, Bool, true, false, cond, List, [], ◌∷◌, ◌++◌, length, take, nat_lt, All, Option, Some, None, refl, sym, ap, ◌∙◌, subst, arith, length-append}
 use Rattle.std.proofs.lemmas.Bool.{ltb-true, ltb-false}
 use Rattle.std.proofs.lemmas.Option.{same_Some}
 use Rattle.reo_value.specs.declared.value.Value.{Value}
@@ -7,11 +7,10 @@ use Rattle.reo_value.specs.declared.op.Way.{Way}
 use Rattle.reo_value.specs.declared.op.Way.TheVariants.{Put, Get}
 use Rattle.reo_value.specs.Code.{code_of, IsValue}
 use Rattle.reo_fabric.proofs.CodeLemmas.{codes_differ}
-use Rattle.reo_coupling.specs.declared.view.PortView.{PortView}
 use Rattle.reo_coupling.specs.declared.view.Offer.{Offer}
 use Rattle.reo_coupling.specs.declared.view.Call.{Call}
 use Rattle.reo_coupling.specs.PortViews.{seen_in, after_call, offers_of}
-use Rattle.reo_coupling.specs.Ports.{PortNow, PortStands, IsInOnePhase, IsIdle, IsOffered, IsCommitted, IsAnswered, NothingDueAt, IsUnseen, IsCalled, HasPlace, IsAfterItsPast, IsLaid, IsGiven, WasAnswered, ArePaired}
+use Rattle.reo_coupling.specs.Ports.{PortNow, PortStands, IsIdle, IsAnswered, HasPlace, IsAfterItsPast, IsLaid, IsGiven, WasAnswered, ArePaired}
 use Rattle.reo_coupling.specs.PartySteps.{IsSetFor}
 use Rattle.reo_coupling.proofs.OnePort.{none_some}
 

@@ -1,5 +1,5 @@
 -- One port: what each kind of step makes of it.
-use Rattle.std.proofs.Common.{◌≡◌, ℕ, ◌+◌, ◌<◌, ◌≤◌, ◌⊎◌, inl, inr, ⊎_elim, List, [], ◌∷◌, ◌++◌, length, take, All, Option, Some, None, refl, sym, ap, ◌∙◌, subst, arith}
+use Rattle.std.proofs.Common.{◌≡◌, ℕ, ◌+◌, ◌<◌, ◌⊎◌, inl, inr, ⊎_elim, List, [], ◌∷◌, ◌++◌, All, Option, Some, None, refl, sym, ap, ◌∙◌, subst, arith}
 use Rattle.std.proofs.lemmas.Option.{same_Some}
 use Rattle.std.proofs.lemmas.List.Elements.{All-take}
 use Rattle.reo_value.specs.declared.value.Value.{Value}
@@ -8,10 +8,9 @@ use Rattle.reo_value.specs.declared.op.Way.TheVariants.{Put, Get}
 use Rattle.reo_value.specs.Code.{code_of, IsValue}
 use Rattle.reo_fabric.proofs.CodeLemmas.{codes_differ}
 use Rattle.reo_coupling.specs.declared.view.PortView.{PortView}
-use Rattle.reo_coupling.specs.declared.view.Offer.{Offer}
 use Rattle.reo_coupling.specs.declared.view.Call.{Call}
 use Rattle.reo_coupling.specs.PortViews.{fresh_port}
-use Rattle.reo_coupling.specs.Ports.{PortNow, PortStands, IsInOnePhase, IsIdle, IsOffered, IsCommitted, IsAnswered, NothingDueAt, IsUnseen, IsCalled, HasPlace, IsAfterItsPast, IsLaid, IsGiven, DatumComes, ArePaired}
+use Rattle.reo_coupling.specs.Ports.{PortNow, PortStands, IsOffered, IsCommitted, IsLaid, IsGiven, DatumComes, ArePaired}
 
 module _ {A : Type 0} where
   pub none_some : {P : Type 0} (o : Option A) (x : A) → o ≡ None → o ≡ Some x → P

@@ -22,7 +22,6 @@ use Rattle.reo_coupling.specs.Whole.{StandsFor}
 use Rattle.reo_coupling.specs.PortViews.{fresh_port, fresh_party}
 use Rattle.reo_coupling.specs.Ports.{taken_at}
 use Rattle.reo_coupling.specs.PortParts.{CallStands, known_at, calls_of, port_now}
-use Rattle.reo_coupling.specs.declared.view.Call.{Call}
 use Rattle.reo_value.specs.declared.value.Value.{Value}
 use Rattle.reo_coupling.specs.Seats.{moment_of, fresh_region, region_name, party_name, MarkTells, KindTells, SeatsTell}
 use Rattle.reo_coupling.specs.Opening.{first_words, first_root, OpensCoupled}
@@ -116,7 +115,7 @@ module _ (setting : Setting) where
           (fresh_known spec.owner port) (ap (taken_at port) (fresh_calls spec.owner)) refl refl refl;
       offers = λ r within. record { states = λ port noted. absurd (nothing_noted port 1 noted); laid = λ port word noted. absurd (nothing_noted port word noted) };
       stores = λ r within. inl (record { cells = record { takes = refl; fills = refl }; gots = refl; answers = refl });
-      answers = λ r within. record { gots = λ port value due. absurd (no_value port value due); answers = λ port number due. absurd (nothing_noted port number due) };
+      answers = λ r within. record { gots = λ port value due. absurd (no_value port value due); answers = λ port number due. absurd (nothing_noted port number due); gots_once = tt; answers_once = tt };
       calls = λ party within. All-nil (CallStands setting.fabric [] party);
       parties = λ party within. refl;
     }

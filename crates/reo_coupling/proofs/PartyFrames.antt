@@ -1,10 +1,8 @@
 -- A party's step keeps each part that speaks of nothing which it changes.
-use Rattle.std.proofs.Common.{◌≡◌, ℕ, ◌+◌, ◌*◌, ◌<◌, ⊎_elim, Bool, true, false, cond, List, [], ◌∷◌, ◌++◌, length, slice_get, slice_index, nat_eq, All, Option, Some, None, refl, sym, ap, ◌∙◌, subst, arith}
+use Rattle.std.proofs.Common.{◌≡◌, ℕ, ◌+◌, ◌<◌, ⊎_elim, List, ◌++◌, length, slice_get, slice_index, All, Option, Some, None, refl, sym, ap, ◌∙◌, subst, arith}
 use Rattle.std.proofs.lemmas.Bool.{cases_eq, eq-eqb, ne_eqb}
-use Rattle.std.proofs.lemmas.Option.{same_Some, slice_get_within}
-use Rattle.reo_value.specs.declared.value.Value.{Value}
+use Rattle.std.proofs.lemmas.Option.{same_Some}
 use Rattle.reo_fabric.specs.declared.entry.Entry.{Entry}
-use Rattle.reo_fabric.specs.declared.fabric.Fabric.{Fabric}
 use Rattle.reo_fabric.specs.declared.fabric.PortSpec.{PortSpec}
 use Rattle.reo_fabric.specs.Entry.{at_place}
 use Rattle.reo_fabric.proofs.PlaceLemmas.{at_first, at_later}
@@ -12,10 +10,10 @@ use Rattle.reo_coupling.specs.declared.view.Call.{Call}
 use Rattle.reo_coupling.specs.declared.view.PartyView.{PartyView}
 use Rattle.reo_coupling.specs.declared.view.PortView.{PortView}
 use Rattle.reo_coupling.specs.declared.view.RegionView.{RegionView}
-use Rattle.reo_coupling.specs.Moment.{Setting, Moment, round_place, cell_place, state_place, data_place}
+use Rattle.reo_coupling.specs.Moment.{Setting, Moment, round_place, cell_place}
 use Rattle.reo_coupling.specs.PortViews.{port_of, with_port, known_or_fresh}
 use Rattle.reo_coupling.specs.Parts.{view_of, cleared_below}
-use Rattle.reo_coupling.specs.Ports.{places_of, taken_at, PortNow, PortStands}
+use Rattle.reo_coupling.specs.Ports.{places_of, taken_at, PortStands}
 use Rattle.reo_coupling.specs.PortParts.{ports_of, known_at, calls_of, state_at, data_at, port_now, PortsStand, IsPortOf, OffersStand, OwesNothing, IsStoring, PortDuesAreOfTheLast, IsOwned, CallStands}
 use Rattle.reo_coupling.specs.PartySteps.{IsOfParty, known_of}
 use Rattle.reo_coupling.specs.Whole.{StandsFor}

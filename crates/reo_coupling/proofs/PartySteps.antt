@@ -1,18 +1,16 @@
 -- Each step of a party keeps what the words stand for.
-use Rattle.std.proofs.Common.{◌≡◌, ℕ, zero, suc, ◌+◌, ◌*◌, ◌<◌, ◌⊎◌, ⊎_elim, Bool, true, false, cond, List, [], ◌∷◌, ◌++◌, length, slice_get, slice_index, nat_eq, All, Option, Some, None, refl, sym, ap, ◌∙◌, subst, arith, append-nil}
-use Rattle.std.proofs.lemmas.Bool.{cases_eq, eq-eqb, ne_eqb}
-use Rattle.std.proofs.lemmas.List.Elements.{All-nil, All-cons, All-head, All-tail, All-push}
+use Rattle.std.proofs.Common.{◌≡◌, ℕ, ◌<◌, Bool, true, false, cond, List, [], ◌∷◌, ◌++◌, length, slice_get, slice_index, nat_eq, All, Option, Some, None, refl, sym, ap, ◌∙◌, subst, arith, append-nil}
+use Rattle.std.proofs.lemmas.Bool.{eq-eqb, ne_eqb}
+use Rattle.std.proofs.lemmas.List.Elements.{All-head, All-tail, All-push}
 use Rattle.std.proofs.lemmas.Option.{same_Some, slice_get_within}
 use Rattle.reo_value.specs.declared.value.Value.{Value}
-use Rattle.reo_value.specs.Code.{code_of, IsValue}
-use Rattle.reo_fabric.specs.declared.entry.Entry.{Entry}
+use Rattle.reo_value.specs.Code.{code_of}
 use Rattle.reo_fabric.specs.declared.fabric.PortSpec.{PortSpec}
 use Rattle.reo_coupling.specs.declared.view.Call.{Call}
 use Rattle.reo_coupling.specs.declared.view.PartyView.{PartyView}
-use Rattle.reo_coupling.specs.declared.view.PortView.{PortView}
 use Rattle.reo_coupling.specs.Moment.{Setting, Moment, state_place, data_place}
-use Rattle.reo_coupling.specs.PortViews.{port_of, with_port, party_after_load, seen_in, after_call, answered_call}
-use Rattle.reo_coupling.specs.Ports.{datum_at, with_datum, places_of, taken_at, PortNow, PortStands, IsIdle, IsAnswered}
+use Rattle.reo_coupling.specs.PortViews.{port_of, party_after_load, seen_in, after_call, answered_call}
+use Rattle.reo_coupling.specs.Ports.{taken_at, PortNow, PortStands, IsAnswered}
 use Rattle.reo_coupling.specs.PortParts.{CallStands, known_at, calls_of, state_at, data_at, port_now, IsOwned}
 use Rattle.reo_coupling.specs.PartySteps.{IsOfParty, known_of, SetsPut, MakesOffer, SeesState, SeesGot, Clears, PartyKeeps}
 use Rattle.reo_coupling.specs.Whole.{StandsFor}

@@ -1,5 +1,5 @@
 -- Where the places of a port are in the history.
-use Rattle.std.proofs.Common.{◌≡◌, ℕ, zero, suc, ◌+◌, List, [], ◌∷◌, slice_get, All, Option, Some, None, refl, arith}
+use Rattle.std.proofs.Common.{◌≡◌, ℕ, suc, ◌+◌, List, [], ◌∷◌, slice_get, All, Option, Some, None, refl, arith}
 use Rattle.std.proofs.lemmas.List.Elements.{All-nil, All-cons}
 use Rattle.reo_value.specs.declared.value.Value.{Value}
 use Rattle.reo_fabric.specs.declared.entry.Entry.{Entry}

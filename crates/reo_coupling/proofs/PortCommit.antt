@@ -1,19 +1,18 @@
 -- The commit, at ports.
-use Rattle.std.proofs.Common.{◌≡◌, ℕ, zero, suc, ◌+◌, ◌*◌, ◌<◌, ◌⊎◌, ⊎_elim, inl, inr, Bool, true, false, cond, [], List, ◌∷◌, ◌++◌, map, length, slice_get, slice_index, nat_eq, All, Option, Some, None, IfSome, refl, sym, ap, ◌∙◌, subst, arith, length-append}
-use Rattle.std.proofs.lemmas.Bool.{cases_eq}
+use Rattle.std.proofs.Common.{◌≡◌, ℕ, ◌+◌, ◌<◌, ◌⊎◌, ⊎_elim, inl, inr, [], List, ◌∷◌, ◌++◌, map, length, slice_get, slice_index, All, Option, Some, None, IfSome, refl, sym, ap, ◌∙◌, subst, arith}
+use Rattle.std.proofs.lemmas.Bool.{cases_eq, eq-eqb}
 use Rattle.std.proofs.lemmas.Bool.Decides.{eqb_tells}
 use Rattle.std.proofs.lemmas.List.Elements.{All-nil, All-weaker}
 use Rattle.std.proofs.lemmas.Option.{same_Some, slice_get_within, get_or_from_slice_get}
 use Rattle.reo_value.specs.declared.value.Value.{Value}
 use Rattle.reo_value.specs.declared.op.Way.{Way}
 use Rattle.reo_value.specs.declared.op.Way.TheVariants.{Put, Get}
-use Rattle.reo_value.specs.Code.{code_of, IsValue}
+use Rattle.reo_value.specs.Code.{code_of}
 use Rattle.reo_fabric.specs.declared.entry.Entry.{Entry}
-use Rattle.reo_fabric.specs.declared.fabric.Fabric.{Fabric}
 use Rattle.reo_fabric.specs.declared.fabric.PortSpec.{PortSpec}
 use Rattle.reo_fabric.specs.Entry.{at_place}
 use Rattle.reo_fabric.specs.Fabric.{IsPort}
-use Rattle.reo_fabric.specs.Decider.{Puts, Gets, port_words}
+use Rattle.reo_fabric.specs.Decider.{Puts, Gets}
 use Rattle.reo_fabric.proofs.PlaceLemmas.{at_first, at_later, at_place_holds}
 use Rattle.reo_coupling.specs.declared.view.Call.{Call}
 use Rattle.reo_coupling.specs.declared.view.PartyView.{PartyView}
@@ -24,15 +23,16 @@ use Rattle.reo_coupling.specs.Moment.{Setting, Moment, state_place, data_place}
 use Rattle.reo_coupling.specs.Views.{after_commit}
 use Rattle.reo_coupling.specs.PortViews.{ports_after_commit}
 use Rattle.reo_coupling.specs.Parts.{view_of}
-use Rattle.reo_coupling.specs.Ports.{first_some, datum_at, with_datum, places_of, taken_at, PortNow, PortStands}
-use Rattle.reo_coupling.specs.PortParts.{ports_of, known_at, calls_of, state_at, data_at, port_now, PortsStand, IsPortOf, OffersStand, OffersAreNoted, OwesNothing, IsStoring, StoresComeFirst, AnswerIsOfTheLast, AnswersAreOfTheLast, CallStands, CallsStand}
+use Rattle.reo_coupling.specs.Ports.{first_some, datum_at, with_datum, places_of, taken_at, PortStands}
+use Rattle.reo_coupling.specs.PortParts.{ports_of, known_at, calls_of, state_at, data_at, port_now, PortsStand, OffersStand, OffersAreNoted, OwesNothing, IsStoring, StoresComeFirst, AreOnce, AnswerIsOfTheLast, AnswersAreOfTheLast, CallStands, CallsStand}
 use Rattle.reo_coupling.specs.Steps.{Commits, noted, word_or_zero}
 use Rattle.reo_coupling.specs.Whole.{StandsFor, KeepsPortParts}
 use Rattle.reo_coupling.proofs.Places.{get_longer}
 use Rattle.reo_coupling.proofs.Commit.{code_is_above, none_else}
 use Rattle.reo_coupling.proofs.Frames.{word_else}
+use Rattle.reo_coupling.proofs.Lists.{rising_once}
 use Rattle.reo_coupling.proofs.OnePort.{none_some, same_port, one_commits}
-use Rattle.reo_coupling.proofs.PortFrames.{whole_view, one_region, offers_else, each_book, part_stays, parties_stay, dues_stay}
+use Rattle.reo_coupling.proofs.PortFrames.{whole_view, offers_else, each_book, parties_stay, dues_stay}
 
 -- the places of a port, with an entry more
 pub places_more : (port first : ℕ) (entries : List Entry) (entry : Entry) (number : ℕ) → number ≡ first + length entries → places_of port first (entries ++ entry ∷ []) ≡ places_of port first entries ++ with_datum number (datum_at entry port) []
@@ -70,6 +70,23 @@ at_numbered number (p ∷ places) port =
     (λ here. at_first (p.0, number) (map (λ (q : ℕ × Value). (q.0, number)) places) port here.0 ∙ ap (numbered_at number) (sym (at_first p places port here.0)))
     (λ later. at_later (p.0, number) (map (λ (q : ℕ × Value). (q.0, number)) places) port later.0 ∙ (at_numbered number places port ∙ ap (numbered_at number) (sym (at_later p places port later.0))))
     (eqb_tells port p.0)
+
+-- Each port of two lists stands in one of them, once: so it is answered once.
+numbered_once : (number : ℕ) (places : List (ℕ × Value)) → AreOnce places → AreOnce (map (λ (p : ℕ × Value). (p.0, number)) places)
+unfolding numbered_at
+numbered_once number [] once = tt
+numbered_once number (p ∷ places) once = (at_numbered number places p.0 ∙ ap (numbered_at number) once.0, numbered_once number places once.1)
+
+appended_once : (xs ys : List (ℕ × Value)) → AreOnce xs → AreOnce ys → ((port : ℕ) (value : Value) → at_place xs port ≡ Some value → at_place ys port ≡ None) → AreOnce (xs ++ ys)
+appended_once [] ys of_xs of_ys apart = of_ys
+appended_once (p ∷ xs) ys of_xs of_ys apart = (
+  at_appended xs ys p.0 ∙ (ap (λ o. first_some o (at_place ys p.0)) of_xs.0 ∙ apart p.0 p.1 (at_first p xs p.0 (eq-eqb p.0 p.0 refl))),
+  appended_once xs ys of_xs.1 of_ys (λ port value found.
+      ⊎_elim
+      (λ here. none_some (at_place xs port) value (ap (at_place xs) here.1 ∙ of_xs.0) found)
+      (λ later. apart port value (at_later p xs port later.0 ∙ found))
+      (eqb_tells port p.0)),
+)
 
 -- an answer is due at each port of the entry, with its number
 pub answer_at : (number : ℕ) (entry : Entry) (port : ℕ) → at_place (ports_after_commit number entry).answers_due port ≡ numbered_at number (datum_at entry port)
@@ -263,6 +280,14 @@ module _ (setting : Setting) (region : ℕ) (before after : Moment) (inside : re
         has = ap (λ o. first_some o (at_place step.entry.gets port)) of_put ∙ of_get;
       }
 
+  no_get : (port : ℕ) (value : Value) (get : Option Value) → at_place step.entry.puts port ≡ Some value → at_place step.entry.gets port ≡ get → get ≡ None
+  no_get port value None of_put of_get = refl
+  no_get port value (Some v) of_put of_get =
+      let put = put_own port value of_put in
+      let get = get_own port v of_get in
+      let same : put.spec ≡ get.spec = same_Some put.spec get.spec (sym put.found ∙ get.found) in
+      absurd (put_is_no_get (sym put.goes ∙ (ap (λ (s : PortSpec). s.way) same ∙ get.goes)))
+
   pub commit_answers : AnswersAreOfTheLast setting after
   unfolding now
   commit_answers =
@@ -278,6 +303,11 @@ module _ (setting : Setting) (region : ℕ) (before after : Moment) (inside : re
               gets = due;
             };
         answers = λ port number due. answer_of port number (at_place step.entry.puts port) (at_place step.entry.gets port) refl refl (sym (answer_at (slice_index before.words 0) step.entry port) ∙ due);
+        gots_once = rising_once step.entry.gets 0 step.may.fits.gets_rise;
+        answers_once =
+            numbered_once (slice_index before.words 0) (step.entry.puts ++ step.entry.gets)
+            (appended_once step.entry.puts step.entry.gets (rising_once step.entry.puts 0 step.may.fits.puts_rise) (rising_once step.entry.gets 0 step.may.fits.gets_rise)
+            (λ port value found. no_get port value (at_place step.entry.gets port) found refl));
       })
       stands.answers
 

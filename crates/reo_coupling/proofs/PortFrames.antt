@@ -1,5 +1,5 @@
 -- A region's step keeps each part on ports that speaks of nothing which it changes.
-use Rattle.std.proofs.Common.{◌≡◌, ℕ, ◌+◌, ◌<◌, ◌⊎◌, ⊎_elim, inl, List, length, slice_get, All, Some, refl, sym, ap, ◌∙◌, subst, arith}
+use Rattle.std.proofs.Common.{◌≡◌, ℕ, ◌<◌, ◌⊎◌, ⊎_elim, inl, List, length, All, Some, refl, sym, ap, ◌∙◌, subst}
 use Rattle.std.proofs.lemmas.Bool.{cases_eq}
 use Rattle.std.proofs.lemmas.Option.{slice_get_within}
 use Rattle.reo_value.specs.declared.value.Value.{Value}
@@ -7,14 +7,13 @@ use Rattle.reo_fabric.specs.declared.entry.Entry.{Entry}
 use Rattle.reo_fabric.specs.declared.fabric.Fabric.{Fabric}
 use Rattle.reo_fabric.specs.declared.fabric.PortSpec.{PortSpec}
 use Rattle.reo_fabric.specs.Entry.{at_place}
-use Rattle.reo_coupling.specs.declared.view.Call.{Call}
 use Rattle.reo_coupling.specs.declared.view.CellsView.{CellsView}
 use Rattle.reo_coupling.specs.declared.view.PartyView.{PartyView}
 use Rattle.reo_coupling.specs.declared.view.PortsView.{PortsView}
 use Rattle.reo_coupling.specs.declared.view.RegionView.{RegionView}
 use Rattle.reo_coupling.specs.Moment.{Setting, Moment}
 use Rattle.reo_coupling.specs.Ports.{places_of, taken_at}
-use Rattle.reo_coupling.specs.PortParts.{known_at, calls_of, state_at, data_at, port_now, PortsStand, IsPortOf, OffersStand, OffersAreNoted, OwesNothing, IsStoring, StoresComeFirst, PortDuesAreOfTheLast, AnswersAreOfTheLast, CallStands, CallsStand, PartiesAreNamed, IsLast}
+use Rattle.reo_coupling.specs.PortParts.{known_at, calls_of, state_at, data_at, port_now, PortsStand, IsPortOf, OffersStand, OffersAreNoted, OwesNothing, IsStoring, StoresComeFirst, AreOnce, PortDuesAreOfTheLast, AnswersAreOfTheLast, CallStands, CallsStand, PartiesAreNamed}
 use Rattle.reo_coupling.specs.Steps.{OthersStay}
 use Rattle.reo_coupling.proofs.OnePort.{same_port}
 
@@ -33,14 +32,18 @@ port_within fabric region port own = slice_get_within fabric.ports port own.spec
 -- what is due is less, and of the same last entry
 pub dues_fewer : (fabric : Fabric) (region : ℕ) (old new : RegionView) → new.cells.entries ≡ old.cells.entries
     → ((port : ℕ) (value : Value) → at_place new.ports.gots_due port ≡ Some value → at_place old.ports.gots_due port ≡ Some value)
-    → ((port number : ℕ) → at_place new.ports.answers_due port ≡ Some number → at_place old.ports.answers_due port ≡ Some number) → PortDuesAreOfTheLast fabric region old → PortDuesAreOfTheLast fabric region new
-dues_fewer fabric region old new entries gots answers are = record {
+    → ((port number : ℕ) → at_place new.ports.answers_due port ≡ Some number → at_place old.ports.answers_due port ≡ Some number)
+    → (AreOnce old.ports.gots_due → AreOnce new.ports.gots_due) → (AreOnce old.ports.answers_due → AreOnce new.ports.answers_due)
+    → PortDuesAreOfTheLast fabric region old → PortDuesAreOfTheLast fabric region new
+dues_fewer fabric region old new entries gots answers gots_once answers_once are = record {
   gots = λ port value due.
       let was = are.gots port value (gots port value due) in
       record { own = was.own; way = was.way; last = was.last; is_last = record { earlier = was.is_last.earlier; entries = entries ∙ was.is_last.entries }; gets = was.gets };
   answers = λ port number due.
       let was = are.answers port number (answers port number due) in
       record { own = was.own; last = was.last; is_last = record { earlier = was.is_last.earlier; entries = entries ∙ was.is_last.entries }; numbered = was.numbered; value = was.value; has = was.has };
+  gots_once = gots_once are.gots_once;
+  answers_once = answers_once are.answers_once;
 }
 
 -- notes stand where the words of their ports stay

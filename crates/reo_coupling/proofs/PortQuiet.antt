@@ -1,24 +1,22 @@
 -- What a region's steps on its round, on the commit word and on cells leave of ports, and its reading of ports.
-use Rattle.std.proofs.Common.{◌≡◌, ℕ, ◌+◌, ◌*◌, ◌<◌, ◌⊎◌, ⊎_elim, inl, inr, List, [], length, slice_get, slice_index, slice_set, Some, refl, sym, ap, ◌∙◌, subst, arith}
-use Rattle.std.proofs.lemmas.Option.{slice_get_within}
-use Rattle.reo_value.specs.declared.value.Value.{Value}
+use Rattle.std.proofs.Common.{◌≡◌, ℕ, ◌+◌, ◌*◌, ◌<◌, ◌⊎◌, ⊎_elim, inr, [], length, slice_get, slice_index, Some, refl, sym, ap, ◌∙◌, subst, arith}
 use Rattle.reo_fabric.specs.declared.fabric.Fabric.{Fabric}
 use Rattle.reo_fabric.specs.Entry.{at_place}
 use Rattle.reo_coupling.specs.declared.view.CellsView.{CellsView}
 use Rattle.reo_coupling.specs.declared.view.PortsView.{PortsView}
 use Rattle.reo_coupling.specs.declared.view.RegionView.{RegionView}
-use Rattle.reo_coupling.specs.Moment.{Setting, Moment, round_place, cell_place, state_place, data_place}
+use Rattle.reo_coupling.specs.Moment.{Setting, Moment, cell_place, state_place, data_place}
 use Rattle.reo_coupling.specs.Views.{after_load, after_begin, after_clock, after_see_cell, after_set_cell}
 use Rattle.reo_coupling.specs.PortViews.{ports_after_begin, after_see_port, after_see_offer}
-use Rattle.reo_coupling.specs.Parts.{view_of, NothingDue}
-use Rattle.reo_coupling.specs.PortParts.{ports_of, state_at, data_at, IsPortOf, OffersStand, OwesNothing, IsStoring, StoresComeFirst}
+use Rattle.reo_coupling.specs.Parts.{view_of}
+use Rattle.reo_coupling.specs.PortParts.{ports_of, state_at, data_at, IsPortOf, OffersStand, OwesNothing, IsStoring, StoresComeFirst, AreOnce}
 use Rattle.reo_coupling.specs.Steps.{Begins, ReadsClock, SeesCell, SeesPort, SeesOffer, SetsCell, OthersStay}
 use Rattle.reo_coupling.specs.Whole.{StandsFor, KeepsPart, KeepsCellParts, KeepsPortParts}
 use Rattle.reo_coupling.proofs.Above.{above, loads_only}
 use Rattle.reo_coupling.proofs.Frames.{word_else}
 use Rattle.reo_coupling.proofs.Lists.{at_more}
 use Rattle.reo_coupling.proofs.Store.{same_field, taken_off, filled_off, nothing_at, set_within}
-use Rattle.reo_coupling.proofs.PortFrames.{whole_view, dues_fewer, port_within, each_book, parties_stay, stores_none, dues_stay, offers_stay, ports_stay, calls_stay}
+use Rattle.reo_coupling.proofs.PortFrames.{whole_view, dues_fewer, each_book, parties_stay, stores_none, dues_stay, offers_stay, ports_stay, calls_stay}
 
 nothing_noted : {A : Type 0} (port : ℕ) (word : A) → at_place [] port ≡ Some word → ⊥
 nothing_noted port word noted = cc
@@ -35,16 +33,16 @@ module _ (Step : Setting → ℕ → Moment → Moment → Type 0) (now : (setti
     (history : (setting : Setting) (region : ℕ) (before after : Moment) → Step setting region before after → after.history ≡ before.history)
     (states : (setting : Setting) (region : ℕ) (before after : Moment) → Step setting region before after → StandsFor setting before → region < setting.fabric.regions → (port : ℕ) → state_at setting after port ≡ state_at setting before port)
     (datas : (setting : Setting) (region : ℕ) (before after : Moment) → Step setting region before after → StandsFor setting before → region < setting.fabric.regions → (port : ℕ) → data_at setting after port ≡ data_at setting before port)
-    (gots : (setting : Setting) (region : ℕ) (before after : Moment) (step : Step setting region before after) (port : ℕ) → at_place (now setting region before after step).ports.gots_due port ≡ at_place (ports_of before region).gots_due port)
-    (answers : (setting : Setting) (region : ℕ) (before after : Moment) (step : Step setting region before after) (port : ℕ) → at_place (now setting region before after step).ports.answers_due port ≡ at_place (ports_of before region).answers_due port)
+    (gots : (setting : Setting) (region : ℕ) (before after : Moment) (step : Step setting region before after) → (now setting region before after step).ports.gots_due ≡ (ports_of before region).gots_due)
+    (answers : (setting : Setting) (region : ℕ) (before after : Moment) (step : Step setting region before after) → (now setting region before after step).ports.answers_due ≡ (ports_of before region).answers_due)
     (entries : (setting : Setting) (region : ℕ) (before after : Moment) (step : Step setting region before after) → (now setting region before after step).cells.entries ≡ (view_of before region).entries) (stores : KeepsPart Step StoresComeFirst)
     (mine : (setting : Setting) (region : ℕ) (before after : Moment) (step : Step setting region before after) → StandsFor setting before → region < setting.fabric.regions → OffersStand setting before region (now setting region before after step).ports) where
   pub aside : KeepsPortParts Step
   aside = record {
     ports = λ setting region before after within stands step.
         ports_stay setting region before after (now setting region before after step) (is setting region before after step) (others setting region before after step) (parties setting region before after step)
-        (λ port inside. states setting region before after step stands within port) (λ port inside. datas setting region before after step stands within port) (history setting region before after step) (gots setting region before after step)
-        (answers setting region before after step) stands.ports;
+        (λ port inside. states setting region before after step stands within port) (λ port inside. datas setting region before after step stands within port) (history setting region before after step)
+        (λ port. ap (λ l. at_place l port) (gots setting region before after step)) (λ port. ap (λ l. at_place l port) (answers setting region before after step)) stands.ports;
     offers = λ setting region before after within stands step.
         offers_stay setting region before after (now setting region before after step) (is setting region before after step) (others setting region before after step) (parties setting region before after step)
         (λ port inside. states setting region before after step stands within port) (λ port inside. datas setting region before after step stands within port) (mine setting region before after step stands) stands.offers;
@@ -52,8 +50,9 @@ module _ (Step : Setting → ℕ → Moment → Moment → Type 0) (now : (setti
     answers = λ setting region before after within stands step.
         dues_stay setting region before after (now setting region before after step) (is setting region before after step) (others setting region before after step) (parties setting region before after step)
         (λ inside.
-        dues_fewer setting.fabric region (before.book region) (now setting region before after step) (entries setting region before after step) (λ port value due. sym (gots setting region before after step port) ∙ due)
-        (λ port number due. sym (answers setting region before after step port) ∙ due) (stands.answers region inside))
+        dues_fewer setting.fabric region (before.book region) (now setting region before after step) (entries setting region before after step)
+        (λ port value due. sym (ap (λ l. at_place l port) (gots setting region before after step)) ∙ due) (λ port number due. sym (ap (λ l. at_place l port) (answers setting region before after step)) ∙ due)
+        (subst AreOnce (sym (gots setting region before after step))) (subst AreOnce (sym (answers setting region before after step))) (stands.answers region inside))
         stands.answers;
     calls = λ setting region before after within stands step.
         calls_stay setting region before after (now setting region before after step) (is setting region before after step) (others setting region before after step) (parties setting region before after step) (history setting region before after step) stands.calls;
@@ -74,7 +73,7 @@ begin_ports =
     (λ setting region before after step. step.history)
     (λ setting region before after step stands within port. word_else before.words after.words _ _ (state_place setting.fabric port) step.words (λ same. omega (arith, within)))
     (λ setting region before after step stands within port. word_else before.words after.words _ _ (data_place setting.fabric port) step.words (λ same. omega (arith, within)))
-    (λ setting region before after step port. refl) (λ setting region before after step port. refl) (λ setting region before after step. refl)
+    (λ setting region before after step. refl) (λ setting region before after step. refl) (λ setting region before after step. refl)
     (λ setting region before after within stands step.
     free setting region before after _ _ step.view step.ports step.others step.parties
     (owes_as (before.book region) (record { cells = after_begin (view_of before region); ports = ports_after_begin (ports_of before region) }) refl refl refl refl step.quiet) stands.stores)
@@ -85,7 +84,7 @@ clock_ports =
     aside ReadsClock (λ setting region before after step. record { cells = after_clock (view_of before region) (slice_index before.words 0); ports = ports_of before region })
     (λ setting region before after step. whole_view (after.book region) _ _ step.view step.ports) (λ setting region before after step. step.others) (λ setting region before after step. step.parties)
     (λ setting region before after step. step.history) (λ setting region before after step stands within port. ap (λ ws. slice_index ws (state_place setting.fabric port)) step.words)
-    (λ setting region before after step stands within port. ap (λ ws. slice_index ws (data_place setting.fabric port)) step.words) (λ setting region before after step port. refl) (λ setting region before after step port. refl)
+    (λ setting region before after step stands within port. ap (λ ws. slice_index ws (data_place setting.fabric port)) step.words) (λ setting region before after step. refl) (λ setting region before after step. refl)
     (λ setting region before after step. refl)
     (λ setting region before after within stands step.
     free setting region before after _ _ step.view step.ports step.others step.parties
@@ -101,7 +100,7 @@ see_cell_ports =
     })
     (λ setting region before after step. whole_view (after.book region) _ _ step.view step.ports) (λ setting region before after step. step.others) (λ setting region before after step. step.parties)
     (λ setting region before after step. step.history) (λ setting region before after step stands within port. ap (λ ws. slice_index ws (state_place setting.fabric port)) step.words)
-    (λ setting region before after step stands within port. ap (λ ws. slice_index ws (data_place setting.fabric port)) step.words) (λ setting region before after step port. refl) (λ setting region before after step port. refl)
+    (λ setting region before after step stands within port. ap (λ ws. slice_index ws (data_place setting.fabric port)) step.words) (λ setting region before after step. refl) (λ setting region before after step. refl)
     (λ setting region before after step. refl)
     (λ setting region before after within stands step.
     free setting region before after _ _ step.view step.ports step.others step.parties
@@ -120,7 +119,7 @@ see_port_ports =
     })
     (λ setting region before after step. whole_view (after.book region) _ _ step.view step.ports) (λ setting region before after step. step.others) (λ setting region before after step. step.parties)
     (λ setting region before after step. step.history) (λ setting region before after step stands within port. ap (λ ws. slice_index ws (state_place setting.fabric port)) step.words)
-    (λ setting region before after step stands within port. ap (λ ws. slice_index ws (data_place setting.fabric port)) step.words) (λ setting region before after step port. refl) (λ setting region before after step port. refl)
+    (λ setting region before after step stands within port. ap (λ ws. slice_index ws (data_place setting.fabric port)) step.words) (λ setting region before after step. refl) (λ setting region before after step. refl)
     (λ setting region before after step. refl)
     (λ setting region before after within stands step.
     free setting region before after _ _ step.view step.ports step.others step.parties
@@ -149,7 +148,7 @@ see_offer_ports =
     })
     (λ setting region before after step. whole_view (after.book region) _ _ step.view step.ports) (λ setting region before after step. step.others) (λ setting region before after step. step.parties)
     (λ setting region before after step. step.history) (λ setting region before after step stands within port. ap (λ ws. slice_index ws (state_place setting.fabric port)) step.words)
-    (λ setting region before after step stands within port. ap (λ ws. slice_index ws (data_place setting.fabric port)) step.words) (λ setting region before after step port. refl) (λ setting region before after step port. refl)
+    (λ setting region before after step stands within port. ap (λ ws. slice_index ws (data_place setting.fabric port)) step.words) (λ setting region before after step. refl) (λ setting region before after step. refl)
     (λ setting region before after step. refl)
     (λ setting region before after within stands step.
     free setting region before after _ _ step.view step.ports step.others step.parties
@@ -197,7 +196,7 @@ set_cell_ports =
     word_else before.words after.words _ _ (state_place setting.fabric port) step.words (other_place setting.fabric step.cell (2 * port) (set_within setting region before after within stands step)))
     (λ setting region before after step stands within port.
     word_else before.words after.words _ _ (data_place setting.fabric port) step.words (λ same. other_place setting.fabric step.cell (1 + 2 * port) (set_within setting region before after within stands step) (omega (arith, same))))
-    (λ setting region before after step port. refl) (λ setting region before after step port. refl)
+    (λ setting region before after step. refl) (λ setting region before after step. refl)
     (λ setting region before after step. same_field (λ v. v.entries) (view_of before region) step.cell step.word refl refl)
     (λ setting region before after within stands step.
     each_book setting region before after (record { cells = after_set_cell (view_of before region) step.cell step.word; ports = ports_of before region }) (whole_view (after.book region) _ _ step.view step.ports) step.others step.parties

@@ -1,27 +1,26 @@
 -- The stores of a region at ports: the datum of a get, and an answer.
-use Rattle.std.proofs.Common.{◌≡◌, ℕ, ◌+◌, ◌*◌, ◌<◌, ◌⊎◌, ⊎_elim, inr, [], List, length, slice_get, slice_index, Some, None, refl, sym, ap, ◌∙◌, subst, arith}
+use Rattle.std.proofs.Common.{◌≡◌, ℕ, ◌+◌, ◌<◌, ◌⊎◌, ⊎_elim, inr, [], List, slice_get, Some, None, refl, sym, ap, ◌∙◌, subst, arith}
 use Rattle.std.proofs.lemmas.Bool.{cases_eq}
-use Rattle.std.proofs.lemmas.Option.{same_Some, slice_get_within}
+use Rattle.std.proofs.lemmas.Option.{slice_get_within}
 use Rattle.reo_value.specs.declared.value.Value.{Value}
 use Rattle.reo_value.specs.Code.{code_of}
 use Rattle.reo_fabric.specs.declared.fabric.Fabric.{Fabric}
 use Rattle.reo_fabric.specs.declared.fabric.PortSpec.{PortSpec}
 use Rattle.reo_fabric.specs.Entry.{at_place}
-use Rattle.reo_coupling.specs.declared.view.CellsView.{CellsView}
 use Rattle.reo_coupling.specs.declared.view.PortsView.{PortsView}
 use Rattle.reo_coupling.specs.declared.view.RegionView.{RegionView}
 use Rattle.reo_coupling.specs.Moment.{Setting, Moment, state_place, data_place}
 use Rattle.reo_coupling.specs.PortViews.{after_set_got, after_answer}
 use Rattle.reo_coupling.specs.Parts.{view_of}
 use Rattle.reo_coupling.specs.Ports.{places_of, taken_at, PortNow, PortStands}
-use Rattle.reo_coupling.specs.PortParts.{ports_of, known_at, calls_of, state_at, data_at, port_now, PortsStand, IsPortOf, OffersStand, OffersAreNoted, OwesNothing, IsStoring, StoresComeFirst, AnswersAreOfTheLast}
+use Rattle.reo_coupling.specs.PortParts.{ports_of, known_at, calls_of, state_at, data_at, port_now, PortsStand, IsPortOf, OffersStand, OffersAreNoted, OwesNothing, IsStoring, StoresComeFirst, AreOnce, AnswersAreOfTheLast}
 use Rattle.reo_coupling.specs.Steps.{SetsGot, Answers, OthersStay}
 use Rattle.reo_coupling.specs.Whole.{StandsFor, KeepsCellParts, KeepsPortParts}
 use Rattle.reo_coupling.proofs.Frames.{word_else, word_here, length_else}
-use Rattle.reo_coupling.proofs.Lists.{without_here, without_else, without_found}
+use Rattle.reo_coupling.proofs.Lists.{without_here, without_else, without_found, without_once}
 use Rattle.reo_coupling.proofs.Above.{above, loads_only}
-use Rattle.reo_coupling.proofs.OnePort.{none_some, same_port, one_sets_got, one_answers}
-use Rattle.reo_coupling.proofs.PortFrames.{whole_view, one_region, port_within, dues_fewer, offers_else, each_book, part_stays, parties_stay, dues_stay, calls_stay}
+use Rattle.reo_coupling.proofs.OnePort.{same_port, one_sets_got, one_answers}
+use Rattle.reo_coupling.proofs.PortFrames.{whole_view, one_region, dues_fewer, offers_else, each_book, part_stays, parties_stay, dues_stay, calls_stay}
 
 nothing_at : {A : Type 0} (places : List (ℕ × A)) (port : ℕ) (x : A) → places ≡ [] → at_place places port ≡ Some x → ⊥
 nothing_at places port x none found =
@@ -87,10 +86,12 @@ module _ (setting : Setting) (region : ℕ) (before after : Moment) (within : re
       (λ inside. inr (record { stage = storing.stage; notes = storing.notes; states = states_same ∙ storing.states; laid = laid_same ∙ storing.laid })) (λ r inside ne. stands.stores r inside)
 
   pub dues_after : ((p : ℕ) (value : Value) → at_place ports.gots_due p ≡ Some value → at_place (ports_of before region).gots_due p ≡ Some value)
-      → ((p number : ℕ) → at_place ports.answers_due p ≡ Some number → at_place (ports_of before region).answers_due p ≡ Some number) → AnswersAreOfTheLast setting after
+      → ((p number : ℕ) → at_place ports.answers_due p ≡ Some number → at_place (ports_of before region).answers_due p ≡ Some number)
+      → (AreOnce (ports_of before region).gots_due → AreOnce ports.gots_due) → (AreOnce (ports_of before region).answers_due → AreOnce ports.answers_due) → AnswersAreOfTheLast setting after
   unfolding now
-  dues_after gots answers =
-      dues_stay setting region before after now is_now others parties (λ inside. dues_fewer setting.fabric region (before.book region) now refl gots answers (stands.answers region inside)) stands.answers
+  dues_after gots answers gots_once answers_once =
+      dues_stay setting region before after now is_now others parties
+      (λ inside. dues_fewer setting.fabric region (before.book region) now refl gots answers gots_once answers_once (stands.answers region inside)) stands.answers
 
 module _ (setting : Setting) (region : ℕ) (before after : Moment) (within : region < setting.fabric.regions) (stands : StandsFor setting before) (step : SetsGot setting region before after) where
   got_own : IsPortOf setting.fabric region step.port
@@ -133,7 +134,8 @@ set_got_ports = record {
   answers = λ setting region before after within stands step.
       dues_after setting region before after within stands step.port (got_own setting region before after within stands step) (got_storing setting region before after within stands step) (after_set_got (ports_of before region) step.port)
       step.view step.ports step.others step.parties step.history refl refl (λ other ne. got_state setting region before after within stands step other) (got_data setting region before after within stands step)
-      (λ other ne. without_else step.port other (ports_of before region).gots_due ne) (λ other ne. refl) (λ p value due. without_found step.port p (ports_of before region).gots_due value due) (λ p number due. due);
+      (λ other ne. without_else step.port other (ports_of before region).gots_due ne) (λ other ne. refl) (λ p value due. without_found step.port p (ports_of before region).gots_due value due) (λ p number due. due)
+      (without_once step.port (ports_of before region).gots_due) (λ once. once);
   calls = λ setting region before after within stands step.
       calls_stay setting region before after (record { cells = view_of before region; ports = after_set_got (ports_of before region) step.port }) (whole_view (after.book region) _ _ step.view step.ports) step.others step.parties step.history stands.calls;
   parties = λ setting region before after within stands step.
@@ -187,7 +189,8 @@ answer_ports = record {
   answers = λ setting region before after within stands step.
       dues_after setting region before after within stands step.port (answer_own setting region before after within stands step) (answer_storing setting region before after within stands step) (after_answer (ports_of before region) step.port)
       step.view step.ports step.others step.parties step.history refl refl (answer_state setting region before after within stands step) (λ other ne. answer_data setting region before after within stands step other)
-      (λ other ne. refl) (λ other ne. without_else step.port other (ports_of before region).answers_due ne) (λ p value due. due) (λ p number due. without_found step.port p (ports_of before region).answers_due number due);
+      (λ other ne. refl) (λ other ne. without_else step.port other (ports_of before region).answers_due ne) (λ p value due. due) (λ p number due. without_found step.port p (ports_of before region).answers_due number due)
+      (λ once. once) (without_once step.port (ports_of before region).answers_due);
   calls = λ setting region before after within stands step.
       calls_stay setting region before after (record { cells = view_of before region; ports = after_answer (ports_of before region) step.port }) (whole_view (after.book region) _ _ step.view step.ports) step.others step.parties step.history stands.calls;
   parties = λ setting region before after within stands step.

@@ -4,7 +4,6 @@ use Rattle.std.proofs.lemmas.Option.{same_Some, get_or_from_slice_get}
 use Rattle.reo_value.specs.declared.value.Value.{Value}
 use Rattle.reo_fabric.specs.declared.entry.Entry.{Entry}
 use Rattle.reo_fabric.specs.Entry.{State, at_place, content_after, carried_out}
-use Rattle.reo_fabric.specs.History.{IsLawfulHistory}
 use Rattle.reo_fabric.proofs.HistoryLemmas.{length-carried_out, at_carried_out, act_cell_by_cell}
 use Rattle.reo_coupling.specs.Sources.{LeavesCell, WasThereAtFirst, WasFilledBefore, TakesHaveSources}
 

@@ -1,7 +1,6 @@
 -- What the words of ports stand for, part by part.
-use Rattle.std.specs.Prelude.{◌≡◌, ℕ, ◌<◌, ◌⊎◌, List, [], ◌∷◌, ◌++◌, length, slice_index, slice_get, All, Option, Some, None}
+use Rattle.std.specs.Prelude.{◌≡◌, ℕ, ◌<◌, ◌⊎◌, List, [], ◌∷◌, ◌++◌, slice_index, slice_get, All, Option, Some, None}
 use Rattle.reo_value.specs.declared.value.Value.{Value}
-use Rattle.reo_value.specs.declared.op.Way.{Way}
 use Rattle.reo_value.specs.declared.op.Way.TheVariants.{Put, Get}
 use Rattle.reo_fabric.specs.declared.entry.Entry.{Entry}
 use Rattle.reo_fabric.specs.declared.entry.Numbered.{Numbered}
@@ -121,10 +120,17 @@ pub record AnswerIsOfTheLast (fabric : Fabric) (region : ℕ) (view : RegionView
   pub value : Value
   pub has : datum_at last.entry port ≡ Some value
 
--- What a region has to store at ports is of its last entry.
+-- no place stands twice in the list
+abbrev pub AreOnce : {A : Type 0} → List (ℕ × A) → Type 0
+AreOnce [] = Unit {0}
+AreOnce (p ∷ places) = (at_place places p.0 ≡ None) × AreOnce places
+
+-- What a region has to store at ports is of its last entry, and no store is due twice.
 pub record PortDuesAreOfTheLast (fabric : Fabric) (region : ℕ) (view : RegionView) : Type 0 where
   pub gots : (port : ℕ) (value : Value) → at_place view.ports.gots_due port ≡ Some value → GotIsOfTheLast fabric region view port value
   pub answers : (port number : ℕ) → at_place view.ports.answers_due port ≡ Some number → AnswerIsOfTheLast fabric region view port number
+  pub gots_once : AreOnce view.ports.gots_due
+  pub answers_once : AreOnce view.ports.answers_due
 
 abbrev pub AnswersAreOfTheLast : Setting → Moment → Type 0
 AnswersAreOfTheLast setting moment = (region : ℕ) → region < setting.fabric.regions → PortDuesAreOfTheLast setting.fabric region (moment.book region)
