@@ -111,6 +111,40 @@ fn a_text_goes_wrong_at_its_first_wrong_token(rt: HostRuntime) {
     }
 }
 
+/// What stands before a name and behind it, and the line and the column of the name.
+const PLACES: [(&str, &str, u32, u32); 16] = [
+    ("in ", "", 1, 4),
+    ("out ", "", 1, 5),
+    ("sync ", " B", 1, 6),
+    ("sync A ", "", 1, 8),
+    ("lossy ", " B", 1, 7),
+    ("lossy A ", "", 1, 9),
+    ("fifo ", " B full 1", 1, 6),
+    ("fifo A ", " full 1", 1, 8),
+    ("drain ", " B", 1, 7),
+    ("drain A ", "", 1, 9),
+    ("filter ", " B x = 1", 1, 8),
+    ("filter A ", " x = 1", 1, 10),
+    ("transform A ", " + 1", 1, 13),
+    ("component ", "", 1, 11),
+    ("in A\ncomponent P\nput ", " 1", 3, 5),
+    ("out A\ncomponent P\nget ", "", 3, 5),
+];
+
+#[test]
+fn a_name_of_65_bytes_goes_wrong_wherever_it_stands(rt: HostRuntime) {
+    let alloc = rt.alloc();
+    let long = "abcdefghijklm".repeat(alloc, 5).expect(&rt, "ample memory");
+    for (before, behind, line, column) in PLACES {
+        let text = format!(in alloc; "{before}{long}{behind}").expect(&rt, "ample memory");
+        assert_eq!(rt;
+            refusal_of(alloc, text.as_bytes()),
+            syntax(line, column),
+            "at {text}"
+        );
+    }
+}
+
 #[test]
 fn other_refusals_tell_their_line(rt: HostRuntime) {
     for (text, refusal) in [

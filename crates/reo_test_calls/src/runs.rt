@@ -90,6 +90,18 @@ const ROWS: &[Row] = &[
     ),
     (
         &["show"],
+        "in A\nfilter A B not (x < 3 or x mod 2 = 1) and is int\ntransform B C map { 1 -> \"a\", \"b\" -> 2 }\ncomponent P\nput A \"a\\\"b\"\n",
+        Status::Done,
+        "in A\nfilter A B not (x < 3 or x mod 2 = 1) and is int\ntransform B C map { 1 -> \"a\", \"b\" -> 2 }\ncomponent P\nput A \"a\\\"b\"\n",
+    ),
+    (
+        &["show"],
+        "filter A B ((x = 1 or is text) or len <= 3) and (not not x = \"\\\\\\t\")\ntransform B C - 3\ntransform C D map{}\nlossy D  E\ndrain E F#x\nfifo F G full -1\r\n",
+        Status::Done,
+        "filter A B (x = 1 or is text or len <= 3) and not not x = \"\\\\\\t\"\ntransform B C - 3\ntransform C D map { }\nlossy D E\ndrain E F\nfifo F G full -1\n",
+    ),
+    (
+        &["show"],
         "sync A B\nsync B A\n",
         Status::Done,
         "sync A B\nsync B A\n",
