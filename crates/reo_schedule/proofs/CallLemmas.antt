@@ -1,6 +1,6 @@
 -- The calls after one step more.
-use Rattle.std.proofs.Common.{◌≡◌, ℕ, zero, suc, ◌+◌, ◌<◌, ◌⊎◌, inl, inr, ⊎_elim, List, [], ◌∷◌, ◌++◌, length, map, slice_get, get_or, Option, Some, None, Contains, refl, sym, ap, ◌∙◌, subst, arith}
-use Rattle.std.specs.Option.{option_and_then, option_map, option_to_list}
+use Rattle.std.proofs.Common.{◌≡◌, ℕ, zero, suc, ◌+◌, ◌⊎◌, inl, inr, ⊎_elim, List, [], ◌∷◌, ◌++◌, length, map, slice_get, Option, Some, None, refl, sym, ap, ◌∙◌, subst, arith}
+use Rattle.std.specs.Option.{option_map, option_to_list}
 use Rattle.std.proofs.lemmas.Option.{same_Some}
 use Rattle.std.proofs.lemmas.List.{map-append, length-map}
 use Rattle.reo_value.specs.declared.value.Value.{Value}
@@ -14,8 +14,7 @@ use Rattle.reo_fabric.specs.declared.entry.Entry.{Entry}
 use Rattle.reo_fabric.specs.Entry.{carried_out}
 use Rattle.reo_fabric.specs.History.{state_after}
 use Rattle.reo_trace.specs.declared.report.Called.{Called}
-use Rattle.reo_trace.specs.Lawful.{call_at}
-use Rattle.reo_schedule.specs.Calls.{answer_to, answer_next, calls_with, calls_from, calls_of}
+use Rattle.reo_schedule.specs.Calls.{answer_next, calls_with, calls_from, calls_of}
 use Rattle.reo_schedule.specs.Turn.{Turn, entries_of, steps_of, state_of, place_of}
 use Rattle.reo_schedule.specs.UnderWay.{Led}
 use Rattle.reo_schedule.specs.Plain.{Follows}

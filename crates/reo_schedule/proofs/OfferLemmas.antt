@@ -1,5 +1,5 @@
 -- What the components' next operations offer.
-use Rattle.std.proofs.Common.{◌≡◌, ℕ, zero, suc, ◌+◌, ◌<◌, ⊎_elim, List, [], ◌∷◌, length, map, slice_get, get_or, Bool, true, false, cond, Option, Some, None, Contains, IfSome, refl, sym, ap, ◌∙◌, subst, arith}
+use Rattle.std.proofs.Common.{◌≡◌, ℕ, zero, suc, ◌+◌, ◌<◌, ⊎_elim, List, [], ◌∷◌, length, slice_get, get_or, Bool, true, false, cond, Option, Some, None, Contains, refl, sym, ap, ◌∙◌, subst, arith}
 use Rattle.std.specs.Prelude.{nat_eq}
 use Rattle.std.specs.List.{range_with_len}
 use Rattle.std.specs.Option.{option_to_list}
@@ -10,7 +10,6 @@ use Rattle.std.proofs.lemmas.List.FromFn.{length-range_with_len, get_or-range_wi
 use Rattle.std.proofs.lemmas.List.Elements.{Contains-append_left, Contains-append_right, Contains-append_cases}
 use Rattle.reo_value.specs.declared.value.Value.{Value}
 use Rattle.reo_value.specs.declared.op.Op.{Op}
-use Rattle.reo_value.specs.Code.{IsValue}
 use Rattle.reo_value.specs.Op.{port_of}
 use Rattle.reo_net.specs.declared.circuit.RawCircuit.{RawCircuit}
 use Rattle.reo_net.specs.Scripts.{IsOperationOf, ScriptsFit}

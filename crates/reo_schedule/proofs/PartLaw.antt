@@ -36,7 +36,7 @@ module _ (c : RawCircuit) (texts : List (List ℕ)) (state : State) (step : Step
   pub sub : Step
   sub = record { pairs = filter (λ p. part p.0) step.pairs }
 
-  datum_sub : (name : ℕ) → datum sub name ≡ cond (part name) (datum step name) None
+  pub datum_sub : (name : ℕ) → datum sub name ≡ cond (part name) (datum step name) None
   unfolding sub
   datum_sub name = lookup-filter-keys (nat_eq name) part (part name) (λ k e. ap part (sym (eqb-true name k e))) step.pairs
 

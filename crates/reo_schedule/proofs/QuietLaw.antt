@@ -1,6 +1,6 @@
 -- Where something is enabled, some region's reading allows an entry.
 use Rattle.std.proofs.Common.{◌≡◌, ◌≢◌, ℕ, zero, suc, ◌<◌, List, [], ◌∷◌, length, map, slice_get, Bool, true, false, cond, Option, Some, None, is_some, All, Contains, refl, sym, ap, ◌∙◌, subst, arith}
-use Rattle.std.specs.Prelude.{nat_eq, ◌||◌, not}
+use Rattle.std.specs.Prelude.{nat_eq, ◌||◌, not, IsTrue}
 use Rattle.std.specs.Map.{lookup}
 use Rattle.std.specs.List.Sorted.{IsStrictlyIncreasing}
 use Rattle.std.proofs.lemmas.Bool.{false≢true, eq-eqb, or_left, or_right}
@@ -20,7 +20,7 @@ use Rattle.reo_net.specs.Names.{name_count, port_name, end_a, end_b, IsNameOf}
 use Rattle.reo_net.specs.Regions.{Automaton, OfNode, SameRegion, Moves}
 use Rattle.reo_net.specs.Runs.{Answers, IsOffered, IsEnabled}
 use Rattle.reo_net.specs.Stand.{is_put}
-use Rattle.reo_net.specs.Steps.{State, IsState, datum, fires_in, cell_of, ProductStep}
+use Rattle.reo_net.specs.Steps.{State, IsState, datum, fires_in, cell_of}
 use Rattle.reo_net.proofs.CellLemmas.{cell_at}
 use Rattle.reo_net.proofs.NameLemmas.{slice_get_found, port_is_name, end_a_is_name, end_b_is_name, node_below, node_of_name_below}
 use Rattle.reo_net.proofs.RegionListLemmas.{regions_are_one_list}
@@ -28,7 +28,6 @@ use Rattle.reo_growth.specs.Lists.{has, Among}
 use Rattle.reo_growth.proofs.ListLemmas.{among_place}
 use Rattle.reo_cut.specs.declared.cut.CellCut.{CellCut}
 use Rattle.reo_cut.specs.Cut.{IsCellCut, IsOfRegion}
-use Rattle.reo_product.specs.Table.{IsTableOf}
 use Rattle.reo_product.specs.Laws.{IsPart}
 use Rattle.reo_product.proofs.SplitLemmas.{steps_split}
 use Rattle.reo_fabric.specs.declared.entry.Entry.{Entry}
@@ -48,9 +47,9 @@ use Rattle.reo_plan.specs.Fabric.{cell_spec}
 use Rattle.reo_schedule.specs.Board.{IsBoard}
 use Rattle.reo_schedule.specs.Offers.{AreOffered}
 use Rattle.reo_schedule.specs.Values.{BringsValues, PutValues}
-use Rattle.reo_schedule.specs.Laws.{QuietIsNotEnabled}
+use Rattle.reo_schedule.specs.Laws.{IsAllowedPart, EnabledStepsSplit, QuietIsNotEnabled}
 use Rattle.reo_schedule.proofs.RegionLemmas.{one_region, joins}
-use Rattle.reo_schedule.proofs.PartLaw.{sub, sub_has, part_has, part_meets, part_named}
+use Rattle.reo_schedule.proofs.PartLaw.{sub, datum_sub, sub_has, part_has, part_meets, part_named}
 use Rattle.reo_schedule.proofs.PlaceLemmas.{with_all, listed, at_listed, words_listed, each_pair}
 use Rattle.reo_schedule.proofs.ValueLemmas.{holds_taken, holds_none, datum_value}
 
@@ -228,25 +227,50 @@ module _ (c : RawCircuit) (checked : IsChecked c) (texts : List (List ℕ)) (bri
       };
     }
 
-  some_allowed : (region : ℕ) × (entry : Entry) × (region < fabric.regions) × Allows c texts tables region (reading_of fabric region state offers) entry
-  some_allowed =
-      let first = first_name (name_count c) enabled.step.pairs enabled.possible.is_step.nonempty enabled.possible.is_step.known in
-      let node = node_of_name_below c checked.circuit first.0 first.1 in
+  fired_below : (name : ℕ) → IsTrue (fires_in (datum enabled.step) name) → name < name_count c
+  fired_below name fired = go (datum enabled.step name) refl
+    where
+      go : (o : Option Value) → datum enabled.step name ≡ o → name < name_count c
+      go None e = absurd (false≢true (sym (ap is_some e) ∙ fired))
+      go (Some v) e = at_place_holds (λ p. p.0 < name_count c) enabled.step.pairs name v enabled.possible.is_step.known e
+
+  part_at : (name : ℕ) → IsTrue (fires_in (datum enabled.step) name) → IsAllowedPart c texts fabric tables state offers enabled.step name
+  unfolding part_allowed
+  part_at name fired =
+      let node = node_of_name_below c checked.circuit name (fired_below name fired) in
       let of = board.is_cut.region_of (OfNode node.0) node.1 in
       let same_roots = regions_are_one_list c board.are_tables.roots board.is_cut.roots board.are_tables.regions board.is_cut.regions in
       let at_tables = ap (λ rs. slice_get rs of.0) same_roots ∙ of.2.at in
       let within = slice_get_within board.are_tables.roots of.0 of.2.root at_tables in
       let table = slice_get_found tables of.0 (omega (arith, within, board.are_tables.as_many)) in
       let tabled = board.are_tables.each of.0 of.2.root table.0 at_tables table.1 in
-      let part = steps_split c checked.circuit of.2.root texts state enabled.step enabled.new enabled.possible (OfNode node.0) (record { of_region = of.2.same; name = first.0; has = node.2; fired = first.2 }) in
+      let moves : Moves c of.2.root (fires_in (datum enabled.step)) (OfNode node.0) = record { of_region = of.2.same; name = name; has = node.2; fired = fired } in
+      let part = steps_split c checked.circuit of.2.root texts state enabled.step enabled.new enabled.possible (OfNode node.0) moves in
       let row = tabled.1.listed.all part.0 part.1.connected in
       let place = among_place table.0 row.0 row.1 in
       let firing = tabled.1.listed.only row.0 row.1 in
       let stands : slice_get table.0 place.0 ≡ Some row.0 = slice_get-get_or table.0 place.0 [] place.1 ∙ ap Some (place.2 []) in
-      let below : of.0 < fabric.regions = omega (arith, within, ap length same_roots, board.is_cut.count, board.is_fabric.regions) in
-      (of.0, entry_at of.0 of.2.root of.2.at (OfNode node.0) part.0 part.1 place.0, below, part_allowed of.0 of.2.root of.2.at (OfNode node.0) part.0 part.1 table.0 table.1 place.0 row.0 stands firing.rising row.2)
+      record {
+        entry = entry_at of.0 of.2.root of.2.at (OfNode node.0) part.0 part.1 place.0;
+        within = omega (arith, within, ap length same_roots, board.is_cut.count, board.is_fabric.regions);
+        roots = board.is_cut.roots;
+        regions = board.is_cut.regions;
+        root = of.2.root;
+        at = of.2.at;
+        mover = OfNode node.0;
+        part = part.0;
+        is_part = part.1;
+        has = part.1.own name node.2 fired;
+        allowed = part_allowed of.0 of.2.root of.2.at (OfNode node.0) part.0 part.1 table.0 table.1 place.0 row.0 stands firing.rising row.2;
+        as_there = λ other. datum_sub c texts state enabled.step enabled.new enabled.possible of.2.root (OfNode node.0) part.0 part.1 other;
+      }
+
+pub enabled_steps_split : EnabledStepsSplit
+enabled_steps_split c texts fabric tables checked brings board state is_state values ops offers put_values offered enabled name fired =
+    part_at c checked texts brings fabric tables board state is_state values ops offers put_values offered enabled name fired
 
 pub quiet_is_not_enabled : QuietIsNotEnabled
 quiet_is_not_enabled c texts fabric tables checked brings board state is_state values ops offers put_values offered quiet enabled =
-    let some = some_allowed c checked texts brings fabric tables board state is_state values ops offers put_values offered enabled in
-    quiet some.0 some.1 some.2 some.3
+    let first = first_name (name_count c) enabled.step.pairs enabled.possible.is_step.nonempty enabled.possible.is_step.known in
+    let part = part_at c checked texts brings fabric tables board state is_state values ops offers put_values offered enabled first.0 first.2 in
+    quiet part.entry.region part.entry part.within part.allowed

@@ -1,5 +1,5 @@
 -- How a run of the plain schedule begins, goes on by a turn, and ends.
-use Rattle.std.proofs.Common.{◌≡◌, ℕ, zero, suc, ◌+◌, ◌<◌, ◌≤◌, ◌⊎◌, inl, inr, ⊎_elim, List, [], ◌∷◌, ◌++◌, length, map, slice_get, get_or, flat_map, Bool, true, false, cond, Option, Some, None, is_some, IfSome, IsTrue, All, refl, sym, ap, ◌∙◌, subst, arith, length-append}
+use Rattle.std.proofs.Common.{◌≡◌, ℕ, zero, suc, ◌<◌, ◌≤◌, ⊎_elim, List, [], ◌∷◌, ◌++◌, length, map, slice_get, flat_map, Bool, true, false, cond, Option, Some, None, is_some, IfSome, IsTrue, All, refl, sym, ap, ◌∙◌, subst, arith, length-append}
 use Rattle.std.specs.Prelude.{not}
 use Rattle.std.proofs.lemmas.Bool.{false≢true, cases_lt}
 use Rattle.std.proofs.lemmas.Option.{same_Some, slice_get_within, get_or_from_slice_get}
@@ -20,8 +20,8 @@ use Rattle.reo_net.specs.declared.circuit.Step.{Step}
 use Rattle.reo_net.specs.Checks.{IsChecked}
 use Rattle.reo_net.specs.Kind.{first_content}
 use Rattle.reo_net.specs.Names.{end_a}
-use Rattle.reo_net.specs.Regions.{Automaton, IsRegion}
-use Rattle.reo_net.specs.Runs.{IsEnabled, initial_state}
+use Rattle.reo_net.specs.Regions.{IsRegion}
+use Rattle.reo_net.specs.Runs.{IsEnabled}
 use Rattle.reo_net.specs.Scripts.{ScriptsFit}
 use Rattle.reo_net.specs.Stand.{is_put}
 use Rattle.reo_net.specs.Steps.{State, IsState, ProductStep, datum, fires_in}
@@ -37,9 +37,7 @@ use Rattle.reo_fabric.specs.Reading.{Offers, offer_at, state_word, data_word, po
 use Rattle.reo_fabric.proofs.CodeLemmas.{codes_differ}
 use Rattle.reo_fabric.proofs.HistoryLemmas.{length-carried_out, at_carried_out}
 use Rattle.reo_fabric.proofs.PlaceLemmas.{at_place_holds}
-use Rattle.reo_flow.specs.Laws.{FiresRegion}
 use Rattle.reo_flow.specs.Places.{buffers, value_at_port}
-use Rattle.reo_flow.specs.Step.{IsStepOf}
 use Rattle.reo_flow.specs.Allows.{Table, Allows, IsFirstChoice}
 use Rattle.reo_flow.proofs.OnceLaw.{one_step_at_most}
 use Rattle.reo_flow.proofs.PlacesLemmas.{at_with}
@@ -47,10 +45,10 @@ use Rattle.reo_flow.proofs.StepLaw.{entries_are_steps}
 use Rattle.reo_trace.specs.declared.report.Called.{Called}
 use Rattle.reo_trace.specs.declared.report.Ending.{Ending}
 use Rattle.reo_trace.specs.declared.report.Ending.TheVariants.{Done, Stuck, Limit}
-use Rattle.reo_trace.specs.Lawful.{HasItsValue, FiresOneRegion, AreFirstOf, AllAnswered, call_at, next_ops, IsEndingOf, IsLawfulReport}
+use Rattle.reo_trace.specs.Lawful.{HasItsValue, FiresOneRegion, AreFirstOf, AllAnswered, call_at, next_ops, IsEndingOf}
 use Rattle.reo_schedule.specs.Board.{IsBoard}
 use Rattle.reo_schedule.specs.Calls.{IsNextOf, calls_with, calls_of}
-use Rattle.reo_schedule.specs.Offers.{offered_by, offer_in, offers_in}
+use Rattle.reo_schedule.specs.Offers.{offers_in}
 use Rattle.reo_schedule.specs.Plain.{IsPlainReport}
 use Rattle.reo_schedule.specs.Turn.{Turn, steps_of, state_of, ops_of, reads, AllowsTurn, IsNext}
 use Rattle.reo_schedule.specs.UnderWay.{ScriptsPutValues, IsLawfulSoFar, IsUnderWay}

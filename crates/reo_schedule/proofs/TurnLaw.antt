@@ -1,56 +1,26 @@
 -- A turn more keeps what was done lawful.
-use Rattle.std.proofs.Common.{◌≡◌, ℕ, zero, suc, ◌+◌, ◌<◌, ◌≤◌, ◌⊎◌, inl, inr, ⊎_elim, List, [], ◌∷◌, ◌++◌, length, map, slice_get, get_or, take, Bool, true, false, cond, Option, Some, None, is_some, IfSome, IsTrue, All, refl, sym, ap, ◌∙◌, subst, arith, length-append}
-use Rattle.std.specs.Prelude.{not}
+use Rattle.std.proofs.Common.{◌≡◌, ℕ, zero, suc, ◌+◌, ◌<◌, ◌≤◌, ◌⊎◌, inl, inr, ⊎_elim, List, [], ◌∷◌, ◌++◌, length, map, slice_get, get_or, take, true, Option, Some, None, is_some, IsTrue, refl, sym, ap, ◌∙◌, subst, arith, length-append}
 use Rattle.std.specs.Option.{option_and_then}
 use Rattle.std.specs.List.Sorted.{IsStrictlyIncreasing}
 use Rattle.std.proofs.lemmas.Bool.{false≢true, cases_lt}
-use Rattle.std.proofs.lemmas.Option.{same_Some, none-some, option_and_then_some, slice_get_within, slice_get-get_or, get_or_from_slice_get}
-use Rattle.std.proofs.lemmas.List.{length-map, map-append, take_more, get_or_default}
+use Rattle.std.proofs.lemmas.Option.{same_Some, slice_get_within, slice_get-get_or, get_or_from_slice_get}
+use Rattle.std.proofs.lemmas.List.{map-append, take_more}
 use Rattle.std.proofs.lemmas.List.Elements.{All-append, All-cons, All-nil}
 use Rattle.reo_value.specs.declared.value.Value.{Value}
 use Rattle.reo_value.specs.declared.op.Op.{Op}
-use Rattle.reo_value.specs.declared.op.Op.TheVariants.{Put, Get}
-use Rattle.reo_value.specs.declared.op.Way.TheVariants as way
-use Rattle.reo_value.specs.Code.{code_of, IsValue}
-use Rattle.reo_value.specs.Op.{port_of, way_of}
-use Rattle.reo_net.specs.declared.circuit.Port.{Port}
+use Rattle.reo_value.specs.Op.{port_of}
 use Rattle.reo_net.specs.declared.circuit.RawCircuit.{RawCircuit}
 use Rattle.reo_net.specs.declared.circuit.Step.{Step}
-use Rattle.reo_net.specs.Checks.{IsChecked}
-use Rattle.reo_net.specs.Names.{port_name, end_a}
-use Rattle.reo_net.specs.Regions.{Automaton, IsRegion}
 use Rattle.reo_net.specs.Runs.{Run, initial_state}
 use Rattle.reo_net.specs.Scripts.{ScriptsFit}
-use Rattle.reo_net.specs.Stand.{is_put}
-use Rattle.reo_net.specs.Steps.{State, IsState, ProductStep, datum, fires_in}
+use Rattle.reo_net.specs.Steps.{State, ProductStep, datum, fires_in}
 use Rattle.reo_net.proofs.NameLemmas.{slice_get_found}
-use Rattle.reo_fabric.specs.declared.entry.Entry.{Entry}
-use Rattle.reo_fabric.specs.declared.fabric.Fabric.{Fabric}
-use Rattle.reo_fabric.specs.declared.reading.Reading.{Reading}
-use Rattle.reo_fabric.specs.Entry.{Agrees, at_place, content_at, content_after, carried_out}
-use Rattle.reo_fabric.specs.Decider.{port_words}
-use Rattle.reo_fabric.specs.Laws.{AreValues}
-use Rattle.reo_fabric.specs.Reading.{Offers, offer_at, state_word, data_word, ports_of, reading_of}
-use Rattle.reo_fabric.proofs.CodeLemmas.{codes_differ, code_is_not_zero}
-use Rattle.reo_fabric.proofs.HistoryLemmas.{length-carried_out, at_carried_out}
-use Rattle.reo_fabric.proofs.PlaceLemmas.{at_place_holds}
-use Rattle.reo_flow.specs.Laws.{FiresRegion}
-use Rattle.reo_flow.specs.Places.{buffers, value_at_port, entry_of}
-use Rattle.reo_flow.specs.Step.{IsStepOf}
-use Rattle.reo_flow.specs.Allows.{Table, Allows}
-use Rattle.reo_flow.proofs.OnceLaw.{one_step_at_most}
-use Rattle.reo_flow.proofs.PlacesLemmas.{at_with}
-use Rattle.reo_flow.proofs.StepLaw.{entries_are_steps}
 use Rattle.reo_trace.specs.declared.report.Called.{Called}
-use Rattle.reo_trace.specs.Lawful.{HasItsValue, FiresOneRegion, AreFirstOf, StandsIn, call_at, IsAnsweredOnce, next_ops}
-use Rattle.reo_schedule.specs.Board.{IsBoard}
-use Rattle.reo_schedule.specs.Calls.{IsNextOf, answer_next, calls_with, calls_of}
-use Rattle.reo_schedule.specs.Offers.{offered_by, offer_in, offers_in}
-use Rattle.reo_schedule.specs.Turn.{Turn, steps_of, state_of, ops_of, reads, AllowsTurn, IsNext}
-use Rattle.reo_schedule.specs.UnderWay.{ScriptsPutValues, IsLawfulSoFar, IsUnderWay}
-use Rattle.reo_schedule.proofs.CallLemmas.{push_old, push_last, push_cases, state_turn, steps_turn, calls_turn, led_more, calls_long, own_with, own_given, IsAnswer, answer_cases, answer_made}
-use Rattle.reo_schedule.proofs.OfferLemmas.{next_ops-only, offer_stands, offer_listed, one_component, one_operation, next_stands, port_below, is_operation}
-use Rattle.reo_schedule.proofs.PlaceLemmas.{words_at}
+use Rattle.reo_trace.specs.Lawful.{HasItsValue, FiresOneRegion, AreFirstOf, StandsIn, call_at, IsAnsweredOnce}
+use Rattle.reo_schedule.specs.Calls.{IsNextOf, answer_next, calls_with}
+use Rattle.reo_schedule.specs.UnderWay.{IsLawfulSoFar}
+use Rattle.reo_schedule.proofs.CallLemmas.{push_old, push_last, push_cases, calls_long, own_with, own_given, answer_cases, answer_made}
+use Rattle.reo_schedule.proofs.OfferLemmas.{one_component}
 
 -- a run and one step more
 run_push : (c : RawCircuit) (texts : List (List ℕ)) (from mid new : State) (steps : List Step) (step : Step) → Run c texts from steps mid → ProductStep c texts mid step new → Run c texts from (steps ++ step ∷ []) new

@@ -4,7 +4,7 @@ use Rattle.reo_value.specs.declared.op.Op.{Op}
 use Rattle.reo_value.specs.Code.{IsValue}
 use Rattle.reo_net.specs.declared.circuit.RawCircuit.{RawCircuit}
 use Rattle.reo_net.specs.declared.circuit.Step.{Step}
-use Rattle.reo_net.specs.Scripts.{IsOperationOf, ScriptsFit}
+use Rattle.reo_net.specs.Scripts.{IsOperationOf}
 use Rattle.reo_net.specs.Steps.{State, IsState, datum, fires_in}
 use Rattle.reo_net.specs.Runs.{Run, initial_state}
 use Rattle.reo_fabric.specs.declared.fabric.Fabric.{Fabric}

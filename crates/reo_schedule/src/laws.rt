@@ -1,5 +1,10 @@
 //! Laws about the definitions, each a function that does nothing.
-ghost use Rattle.reo_schedule.specs.Laws.{OnePlainReport, QuietIsNotEnabled};
+ghost use Rattle.reo_schedule.specs.Laws.{EnabledStepsSplit, OnePlainReport, QuietIsNotEnabled};
+
+/// An enabled step splits into connected firings of regions, each allowed by its region's reading.
+pub fn enabled_steps_split()
+    ensures { EnabledStepsSplit }
+{}
 
 /// Where no region's reading allows an entry, nothing is enabled.
 pub fn quiet_regions_enable_nothing()
