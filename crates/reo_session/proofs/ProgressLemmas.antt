@@ -1,5 +1,6 @@
 -- What holds of each element so far; and when all operations are answered.
-use Rattle.std.proofs.Common.{◌≡◌, ℕ, ◌+◌, ◌<◌, ◌≤◌, ⊎_elim, List, [], ◌∷◌, length, map, get_or, All, true, false, eqb, refl, sym, ap, ◌∙◌, subst, arith}
+use Rattle.std.proofs.Common.{◌≡◌, ℕ, zero, suc, ◌+◌, ◌<◌, ◌≤◌, ⊎_elim, List, [], ◌∷◌, length, map, get_or, All, Bool, true, false, eqb, refl, sym, ap, ◌∙◌, subst, arith}
+use Rattle.std.specs.Prelude.{not, ◌&&◌}
 use Rattle.std.proofs.lemmas.Bool.{and_parts, and_from, eqb-true, eq-eqb, false≢true, cases_lt}
 use Rattle.std.proofs.lemmas.List.{get_or_default}
 use Rattle.reo_value.specs.declared.op.Op.{Op}
@@ -42,3 +43,21 @@ same_when_answered (s ∷ scripts) (o ∷ calls) all =
 
 pub not_all : (scripts : List (List Op)) (calls : List (List Called)) → same_lengths scripts calls ≡ false → AllAnswered scripts calls → ⊥
 not_all scripts calls differ all = false≢true (sym differ ∙ same_when_answered scripts calls all)
+
+pub not_true : (b : Bool) → not b ≡ true → b ≡ false
+not_true true is = absurd (false≢true is)
+not_true false is = refl
+
+and_false : (b : Bool) → (b && false) ≡ false
+and_false true = refl
+and_false false = refl
+
+-- a component with fewer calls than operations tells that not all is answered
+pub one_waits : (k : ℕ) (scripts : List (List Op)) (calls : List (List Called)) (script : List Op) (own : List Called) → k < length scripts → k < length calls → script ≡ get_or scripts k script → own ≡ get_or calls k own
+    → eqb (length script) (length own) ≡ false → same_lengths scripts calls ≡ false
+one_waits k [] calls script own inside within at at_own differ = absurd (omega (arith, inside))
+one_waits k (s ∷ scripts) [] script own inside within at at_own differ = absurd (omega (arith, within))
+one_waits zero (s ∷ scripts) (o ∷ calls) script own inside within at at_own differ =
+    ap (λ b. b && same_lengths scripts calls) (ap (λ x. eqb (length x) (length o)) (sym at) ∙ ap (λ x. eqb (length script) (length x)) (sym at_own) ∙ differ)
+one_waits (suc k) (s ∷ scripts) (o ∷ calls) script own inside within at at_own differ =
+    ap (λ b. eqb (length s) (length o) && b) (one_waits k scripts calls script own (omega (arith, inside)) (omega (arith, within)) at at_own differ) ∙ and_false (eqb (length s) (length o))

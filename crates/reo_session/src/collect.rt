@@ -1,5 +1,5 @@
 //! What components offer at an engine's ports, and the answers that they collect there.
-ghost use Rattle.std.specs.Prelude.{◌≡◌, ℕ, ◌+◌, ◌<◌, ◌++◌, length, slice_get, map, [], OnOk, IfSome, Some, Option};
+ghost use Rattle.std.specs.Prelude.{◌≡◌, ℕ, ◌+◌, ◌<◌, ◌++◌, length, slice_get, map, [], false, OnOk, IfSome, Some, Option};
 ghost use Rattle.reo_value.specs.declared.op.Op.{Op as AnyOp};
 ghost use Rattle.reo_value.specs.Op.{port_of};
 ghost use Rattle.reo_fabric.specs.declared.port_state.PortState.TheVariants.{Idle};
@@ -92,22 +92,28 @@ fn collect_each<D: Decider + Drop>(
     Ok(())
 }
 
-/// Takes all answers, and offers the operations that are next then.
+/// Takes all answers, where there are some, and offers the operations that are next then.
 pub(crate) fn collect<D: Decider + Drop>(
     engine: &mut PlainEngine<D>,
     calls: &mut Vec<Items<Called>>,
     scripts: &[Items<Op>],
+    answers: bool,
 ) -> Result<(), AllocError>
     requires as_many { length calls.old.items ≡ length scripts.now }
     requires fit { ScriptsFitFabric engine.old.fabric scripts.now }
     requires long { length engine.old.ports ≡ length engine.old.fabric.ports }
     requires open { AreOpen scripts.now calls.old.items engine.old.ports }
+    requires none { answers ≡ false → ArePosted scripts.now calls.old.items engine.old.ports }
     ensures calls { OnOk result (calls.new.items ≡ collected scripts.now engine.old.ports calls.old.items) }
     ensures posted { OnOk result (ArePosted scripts.now calls.new.items engine.new.ports) }
     ensures engine { OnOk result (WithPorts engine.old engine.new engine.new.ports) }
     ensures long { OnOk result (length engine.new.ports ≡ length engine.old.ports) }
 {
-    collect_each(engine, calls, scripts)
+    if answers {
+        collect_each(engine, calls, scripts)
+    } else {
+        Ok(())
+    }
 }
 
 /// Offers the first operation of each component.

@@ -1,5 +1,6 @@
 //! What was kept of a run, and whether it is done.
-ghost use Rattle.std.specs.Prelude.{◌≡◌, ◌<◌, ◌≤◌, [], length, map, All, IfOk, IfSome};
+ghost use Rattle.std.specs.Prelude.{◌≡◌, ◌<◌, ◌≤◌, [], length, map, All, IfOk, IfSome, IsTrue, false};
+ghost use Rattle.std.specs.Option.{is_none};
 ghost use Rattle.reo_value.specs.Code.{IsValue};
 ghost use Rattle.reo_schedule.specs.Offers.{offered_by};
 ghost use Rattle.reo_schedule.specs.UnderWay.{ScriptsPutValues};
@@ -20,17 +21,50 @@ pub(crate) struct Progress {
     pub calls: Vec<Items<Called>>,
 }
 
-/// Whether every operation was answered.
-pub(crate) fn all_answered(scripts: &[Items<Op>], calls: &[Items<Called>]) -> bool
+/// Whether an operation of this component was not answered.
+fn waits(scripts: &[Items<Op>], calls: &[Items<Called>], component: usize) -> bool
+    requires as_many { length scripts.now ≡ length calls.now }
+    requires component { component < length scripts.now }
+    ensures { IsTrue result → same_lengths scripts.now calls.now ≡ false }
+{
+    scripts[component].len() != calls[component].len()
+}
+
+/// The first component with an operation that was not answered.
+fn first_waiting(scripts: &[Items<Op>], calls: &[Items<Called>]) -> Option<usize>
     requires { length scripts.now ≡ length calls.now }
-    ensures { result ≡ same_lengths scripts.now calls.now }
+    ensures { is_none result ≡ same_lengths scripts.now calls.now }
 {
     for component in 0..scripts.len() {
         if scripts[component].len() != calls[component].len() {
+            return Some(component);
+        }
+    }
+    None
+}
+
+/// Whether every operation was answered. The component that waited when this was asked last is looked at first, since most often
+/// it waits still.
+pub(crate) fn all_answered(
+    scripts: &[Items<Op>],
+    calls: &[Items<Called>],
+    waiting: &mut usize,
+) -> bool
+    requires { length scripts.now ≡ length calls.now }
+    ensures { result ≡ same_lengths scripts.now calls.now }
+{
+    if *waiting < scripts.len() {
+        if waits(scripts, calls, *waiting) {
             return false;
         }
     }
-    true
+    match first_waiting(scripts, calls) {
+        Some(component) => {
+            *waiting = component;
+            false
+        }
+        None => true,
+    }
 }
 
 /// No calls for each of the scripts.

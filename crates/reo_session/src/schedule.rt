@@ -61,8 +61,8 @@ fn turn<P: Stepper>(
     let Some(region) = fire_next(engine, regions, place) else {
         return Ok(None);
     };
-    keep_step(alloc, engine, plan, &mut progress.steps)?;
-    collect(engine, &mut progress.calls, board.scripts)?;
+    let answers = keep_step(alloc, engine, plan, &mut progress.steps)?;
+    collect(engine, &mut progress.calls, board.scripts, answers)?;
     Ok(Some(region + 1))
 }
 
@@ -85,8 +85,9 @@ fn run_on<P: Stepper>(
     ensures plain { IfOk result (λ ending. IsPlainReport board.entry.net.now board.entry.texts.now board.entry.scripts.now board.entry.limit (record { steps = progress.new.steps.items; calls = progress.new.calls.items; ending = ending })) }
 {
     let mut place = 0;
+    let mut waiting = 0;
     for _turn in 0..board.limit {
-        if all_answered(board.scripts, &progress.calls) {
+        if all_answered(board.scripts, &progress.calls, &mut waiting) {
             return Ok(Ending::Done);
         }
         match turn(engine, progress, alloc, board, plan, regions, place)? {
@@ -94,7 +95,7 @@ fn run_on<P: Stepper>(
             None => return Ok(Ending::Stuck),
         }
     }
-    if all_answered(board.scripts, &progress.calls) {
+    if all_answered(board.scripts, &progress.calls, &mut waiting) {
         Ok(Ending::Done)
     } else {
         Ok(Ending::Limit)

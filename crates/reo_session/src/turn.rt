@@ -1,12 +1,12 @@
 //! The next turn of the plain schedule.
-ghost use Rattle.std.specs.Prelude.{◌≡◌, ℕ, ◌<◌, ◌≤◌, ◌^◌, ◌∷◌, [], ◌++◌, None, Some, IfSome, IfNone, OnOk};
+ghost use Rattle.std.specs.Prelude.{◌≡◌, ℕ, ◌<◌, ◌≤◌, ◌^◌, ◌∷◌, [], ◌++◌, None, Some, IfSome, IfNone, IfOk, OnOk, false};
 ghost use Rattle.reo_net.specs.declared.circuit.Step.{Step as AnyStep};
 ghost use Rattle.reo_fabric.specs.declared.entry.Entry.{Entry as AnyEntry};
-ghost use Rattle.reo_session.specs.Turn.{FiresFirst, AreQuiet};
+ghost use Rattle.reo_session.specs.Turn.{FiresFirst, AreQuiet, AnswersNothing};
 ghost use Rattle.reo_session.specs.Running.{FiresNext};
 
 use crate::steps::Stepper;
-use reo_fabric::{Decider, PlainEngine};
+use reo_fabric::{Decider, Entry, PlainEngine};
 use reo_net::Step;
 use std::alloc::{AllocError, Global};
 
@@ -45,21 +45,33 @@ pub(crate) fn fire_next<D: Decider + Drop>(
     fire_between(engine, 0, place)
 }
 
-/// Keeps the step of the engine's last entry.
+/// Whether a port is answered where this entry is carried out.
+fn answers_something(entry: &Entry) -> bool
+    ensures { result ≡ false → AnswersNothing entry.now }
+{
+    if entry.puts.is_empty() {
+        !entry.gets.is_empty()
+    } else {
+        true
+    }
+}
+
+/// Keeps the step of the engine's last entry, and tells whether the entry answers something.
 pub(crate) fn keep_step<P: Stepper>(
     alloc: Global,
     engine: &PlainEngine<&P>,
     plan: &P,
     steps: &mut Vec<Step>,
-) -> Result<(), AllocError>
+) -> Result<bool, AllocError>
     requires last { (entry : AnyEntry) × (engine.now.last ≡ Some entry) × P.may_step plan.now entry }
     ensures step { OnOk result ((entry : AnyEntry) → engine.now.last ≡ Some entry → (step : AnyStep) × (steps.new.items ≡ steps.old.items ++ step ∷ []) × P.has_step plan.now entry step) }
+    ensures answers { IfOk result (λ answers. answers ≡ false → (entry : AnyEntry) → engine.now.last ≡ Some entry → AnswersNothing entry) }
 {
     let Some(last) = engine.last() else {
-        return Ok(());
+        return Ok(false);
     };
     let entry = last.to_entry(alloc)?;
     let step = plan.step_of(alloc, &entry)?;
     steps.push(step)?;
-    Ok(())
+    Ok(answers_something(&entry))
 }
