@@ -3,5 +3,6 @@
 
 mod lines;
 mod outline;
+mod texts;
 
 pub use outline::outline_of;

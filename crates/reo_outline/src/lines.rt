@@ -1,8 +1,10 @@
 //! The lines, each appended to a buffer.
 ghost use Rattle.std.specs.Prelude.{◌≡◌, ◌+◌, flat_map, length, count_by, decimal};
 ghost use Rattle.reo_outline.specs.Buffer.{Adds};
-ghost use Rattle.reo_outline.specs.Outline.{is_of, name_part, firing_line, head_line, cell_line, port_line};
+ghost use Rattle.reo_outline.specs.Texts.{AreTexts};
+ghost use Rattle.reo_outline.specs.Outline.{is_of, firing_line, head_line, cell_line, port_line};
 
+use crate::texts::{NameTexts, push_names};
 use reo_cut::{CellCut, Cut};
 use reo_net::Net;
 use reo_product::{Firing, RegionTable};
@@ -17,42 +19,18 @@ fn push_from_one(buffer: &mut Vec<u8>, number: u32) -> Result<(), AllocError>
     push_decimal(buffer, u64::from(number) + 1)
 }
 
-fn push_name_part(
-    buffer: &mut Vec<u8>,
-    net: &Net,
-    nodes: &Lexicon,
-    name: u32,
-) -> Result<(), AllocError>
-    ensures { Adds buffer.old buffer.new result (name_part net.now nodes.now name) }
-{
-    push_bytes(buffer, b" ")?;
-    push_name(buffer, net, nodes, name)
-}
-
-fn push_names(
-    buffer: &mut Vec<u8>,
-    net: &Net,
-    nodes: &Lexicon,
-    names: &[u32],
-) -> Result<(), AllocError>
-    ensures { Adds buffer.old buffer.new result (flat_map (name_part net.now nodes.now) names.now) }
-{
-    for name in names {
-        push_name_part(buffer, net, nodes, *name)?;
-    }
-    Ok(())
-}
-
 pub(crate) fn push_firing(
     buffer: &mut Vec<u8>,
     net: &Net,
     nodes: &Lexicon,
+    texts: &NameTexts,
     firing: &Firing,
 ) -> Result<(), AllocError>
+    requires { AreTexts net.now nodes.now texts.now }
     ensures { Adds buffer.old buffer.new result (firing_line net.now nodes.now firing.now) }
 {
     push_bytes(buffer, b"firing")?;
-    push_names(buffer, net, nodes, firing.names.as_slice())?;
+    push_names(buffer, net, nodes, texts, firing.names.as_slice())?;
     push_bytes(buffer, b"\n")
 }
 

@@ -2,9 +2,11 @@
 ghost use Rattle.std.specs.Prelude.{◌≡◌, ◌<◌, ◌^◌, flat_map, length, IfOk};
 ghost use Rattle.reo_trace.specs.Passes.{numbered};
 ghost use Rattle.reo_outline.specs.Buffer.{Adds};
+ghost use Rattle.reo_outline.specs.Texts.{AreTexts};
 ghost use Rattle.reo_outline.specs.Outline.{firing_line, region_lines, cell_line, port_line, outline_text};
 
 use crate::lines::{push_cell, push_firing, push_head, push_port};
+use crate::texts::{NameTexts, texts_of};
 use reo_cut::{CellCut, Cut};
 use reo_net::Net;
 use reo_product::{Firing, RegionTable};
@@ -16,12 +18,14 @@ fn push_firings(
     buffer: &mut Vec<u8>,
     net: &Net,
     nodes: &Lexicon,
+    texts: &NameTexts,
     firings: &[Firing],
 ) -> Result<(), AllocError>
+    requires { AreTexts net.now nodes.now texts.now }
     ensures { Adds buffer.old buffer.new result (flat_map (firing_line net.now nodes.now) firings.now) }
 {
     for firing in firings {
-        push_firing(buffer, net, nodes, firing)?;
+        push_firing(buffer, net, nodes, texts, firing)?;
     }
     Ok(())
 }
@@ -30,28 +34,32 @@ fn push_region(
     buffer: &mut Vec<u8>,
     net: &Net,
     nodes: &Lexicon,
+    texts: &NameTexts,
     cut: &Cut,
     number: u32,
     table: &RegionTable,
 ) -> Result<(), AllocError>
+    requires { AreTexts net.now nodes.now texts.now }
     ensures { Adds buffer.old buffer.new result (region_lines net.now nodes.now cut.now number table.now) }
 {
     push_head(buffer, cut, number, table)?;
-    push_firings(buffer, net, nodes, table.firings.as_slice())
+    push_firings(buffer, net, nodes, texts, table.firings.as_slice())
 }
 
 fn push_regions(
     buffer: &mut Vec<u8>,
     net: &Net,
     nodes: &Lexicon,
+    texts: &NameTexts,
     cut: &Cut,
     tables: &[RegionTable],
 ) -> Result<(), AllocError>
-    requires { length tables.now < 2 ^ 32 }
+    requires texts { AreTexts net.now nodes.now texts.now }
+    requires tables { length tables.now < 2 ^ 32 }
     ensures { Adds buffer.old buffer.new result (numbered (region_lines net.now nodes.now cut.now) 0 tables.now) }
 {
     for (number, table) in tables.iter().enumerate() {
-        push_region(buffer, net, nodes, cut, number as u32, table)?;
+        push_region(buffer, net, nodes, texts, cut, number as u32, table)?;
     }
     Ok(())
 }
@@ -97,7 +105,8 @@ pub fn outline_of(
     push_bytes(&mut text, b"regions ")?;
     push_decimal(&mut text, u64::from(cut.regions))?;
     push_bytes(&mut text, b"\n")?;
-    push_regions(&mut text, net, nodes, cut, tables)?;
+    let texts = texts_of(alloc, net, nodes)?;
+    push_regions(&mut text, net, nodes, &texts, cut, tables)?;
     push_cells(&mut text, cut.cells.as_slice())?;
     push_ports(&mut text, net, nodes, cut.port_region.as_slice())?;
     Ok(text)
