@@ -1,3 +1,4 @@
 pub mod Buffer
+pub mod Counts
 pub mod Outline
 pub mod Texts

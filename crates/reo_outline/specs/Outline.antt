@@ -22,14 +22,15 @@ abbrev pub is_of : ℕ → Option ℕ → Bool
 is_of region entry = option_map_or (λ number. nat_eq number region) entry false
 
 -- a region by its number from 1: how many automata it has, how many firings, how many vertices grow in it
-abbrev pub head_line : Cut → ℕ → RegionTable → List ℕ
-head_line cut number table =
-    codes "region " ++ decimal (number + 1) ++ codes " automata " ++ decimal (count_by (is_of number) cut.region_of) ++ codes " firings "
-    ++ decimal (length table.firings) ++ codes " growth " ++ decimal table.growth ++ codes "\n"
+abbrev pub head_line : ℕ → ℕ → RegionTable → List ℕ
+head_line number automata table =
+    codes "region " ++ decimal (number + 1) ++ codes " automata " ++ decimal automata ++ codes " firings " ++ decimal (length table.firings) ++ codes " growth "
+    ++ decimal table.growth ++ codes "\n"
 
 -- with its firings, in the order of its table
 abbrev pub region_lines : RawCircuit → List (List ℕ) → Cut → ℕ → RegionTable → List ℕ
-region_lines c nodes cut number table = head_line cut number table ++ flat_map (firing_line c nodes) table.firings
+region_lines c nodes cut number table =
+    head_line number (count_by (is_of number) cut.region_of) table ++ flat_map (firing_line c nodes) table.firings
 
 -- a buffer by its channel, with the regions that fill it and take from it
 abbrev pub cell_line : CellCut → List ℕ

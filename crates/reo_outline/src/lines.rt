@@ -1,11 +1,11 @@
 //! The lines, each appended to a buffer.
-ghost use Rattle.std.specs.Prelude.{◌≡◌, ◌+◌, flat_map, length, count_by, decimal};
+ghost use Rattle.std.specs.Prelude.{◌+◌, length, decimal};
 ghost use Rattle.reo_outline.specs.Buffer.{Adds};
 ghost use Rattle.reo_outline.specs.Texts.{AreTexts};
-ghost use Rattle.reo_outline.specs.Outline.{is_of, firing_line, head_line, cell_line, port_line};
+ghost use Rattle.reo_outline.specs.Outline.{firing_line, head_line, cell_line, port_line};
 
 use crate::texts::{NameTexts, push_names};
-use reo_cut::{CellCut, Cut};
+use reo_cut::CellCut;
 use reo_net::Net;
 use reo_product::{Firing, RegionTable};
 use reo_trace::{push_bytes, push_decimal, push_name};
@@ -34,33 +34,6 @@ pub(crate) fn push_firing(
     push_bytes(buffer, b"\n")
 }
 
-fn is_of(region: u32, entry: Option<u32>) -> bool
-    ensures { result ≡ is_of region entry }
-{
-    match entry {
-        Some(number) => number == region,
-        None => false,
-    }
-}
-
-/// How many automata are of the region.
-fn automata_in(region_of: &[Option<u32>], region: u32) -> usize
-    ensures { result ≡ count_by (is_of region) region_of.now }
-{
-    region_of
-        .iter()
-        .filter(|entry| is_of(region, **entry))
-        .count()
-}
-
-/// Appends how many automata are of the region.
-fn push_automata(buffer: &mut Vec<u8>, cut: &Cut, region: u32) -> Result<(), AllocError>
-    ensures { Adds buffer.old buffer.new result (decimal (count_by (is_of region) cut.now.region_of)) }
-{
-    let count = automata_in(cut.region_of.as_slice(), region);
-    push_decimal(buffer, count as u64)
-}
-
 /// Appends how many firings there are.
 fn push_count(buffer: &mut Vec<u8>, table: &RegionTable) -> Result<(), AllocError>
     ensures { Adds buffer.old buffer.new result (decimal (length table.now.firings)) }
@@ -77,16 +50,16 @@ fn push_growth(buffer: &mut Vec<u8>, table: &RegionTable) -> Result<(), AllocErr
 
 pub(crate) fn push_head(
     buffer: &mut Vec<u8>,
-    cut: &Cut,
     number: u32,
+    automata: usize,
     table: &RegionTable,
 ) -> Result<(), AllocError>
-    ensures { Adds buffer.old buffer.new result (head_line cut.now number table.now) }
+    ensures { Adds buffer.old buffer.new result (head_line number automata table.now) }
 {
     push_bytes(buffer, b"region ")?;
     push_from_one(buffer, number)?;
     push_bytes(buffer, b" automata ")?;
-    push_automata(buffer, cut, number)?;
+    push_decimal(buffer, automata as u64)?;
     push_bytes(buffer, b" firings ")?;
     push_count(buffer, table)?;
     push_bytes(buffer, b" growth ")?;

@@ -1,10 +1,12 @@
 //! The whole text.
-ghost use Rattle.std.specs.Prelude.{◌≡◌, ◌<◌, ◌^◌, flat_map, length, IfOk};
+ghost use Rattle.std.specs.Prelude.{◌≡◌, ◌<◌, ◌^◌, ◌++◌, flat_map, length, IfOk};
 ghost use Rattle.reo_trace.specs.Passes.{numbered};
 ghost use Rattle.reo_outline.specs.Buffer.{Adds};
+ghost use Rattle.reo_outline.specs.Counts.{AreCounts};
 ghost use Rattle.reo_outline.specs.Texts.{AreTexts};
-ghost use Rattle.reo_outline.specs.Outline.{firing_line, region_lines, cell_line, port_line, outline_text};
+ghost use Rattle.reo_outline.specs.Outline.{firing_line, head_line, region_lines, cell_line, port_line, outline_text};
 
+use crate::counts::automata_counts;
 use crate::lines::{push_cell, push_firing, push_head, push_port};
 use crate::texts::{NameTexts, texts_of};
 use reo_cut::{CellCut, Cut};
@@ -35,31 +37,42 @@ fn push_region(
     net: &Net,
     nodes: &Lexicon,
     texts: &NameTexts,
-    cut: &Cut,
     number: u32,
+    automata: usize,
     table: &RegionTable,
 ) -> Result<(), AllocError>
     requires { AreTexts net.now nodes.now texts.now }
-    ensures { Adds buffer.old buffer.new result (region_lines net.now nodes.now cut.now number table.now) }
+    ensures { Adds buffer.old buffer.new result (head_line number automata table.now ++ flat_map (firing_line net.now nodes.now) table.now.firings) }
 {
-    push_head(buffer, cut, number, table)?;
+    push_head(buffer, number, automata, table)?;
     push_firings(buffer, net, nodes, texts, table.firings.as_slice())
 }
 
+/// Appends the lines of all regions, with how many automata each has.
 fn push_regions(
     buffer: &mut Vec<u8>,
     net: &Net,
     nodes: &Lexicon,
     texts: &NameTexts,
     cut: &Cut,
+    counts: &[usize],
     tables: &[RegionTable],
 ) -> Result<(), AllocError>
     requires texts { AreTexts net.now nodes.now texts.now }
+    requires counts { AreCounts (length tables.now) cut.now.region_of counts.now }
     requires tables { length tables.now < 2 ^ 32 }
     ensures { Adds buffer.old buffer.new result (numbered (region_lines net.now nodes.now cut.now) 0 tables.now) }
 {
     for (number, table) in tables.iter().enumerate() {
-        push_region(buffer, net, nodes, texts, cut, number as u32, table)?;
+        push_region(
+            buffer,
+            net,
+            nodes,
+            texts,
+            number as u32,
+            counts[number],
+            table,
+        )?;
     }
     Ok(())
 }
@@ -106,7 +119,16 @@ pub fn outline_of(
     push_decimal(&mut text, u64::from(cut.regions))?;
     push_bytes(&mut text, b"\n")?;
     let texts = texts_of(alloc, net, nodes)?;
-    push_regions(&mut text, net, nodes, &texts, cut, tables)?;
+    let counts = automata_counts(alloc, cut.region_of.as_slice(), tables.len())?;
+    push_regions(
+        &mut text,
+        net,
+        nodes,
+        &texts,
+        cut,
+        counts.as_slice(),
+        tables,
+    )?;
     push_cells(&mut text, cut.cells.as_slice())?;
     push_ports(&mut text, net, nodes, cut.port_region.as_slice())?;
     Ok(text)
