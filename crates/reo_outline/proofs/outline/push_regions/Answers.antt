@@ -1,4 +1,4 @@
-use Rattle.std.proofs.Common.{sym, subst}
+use Rattle.std.proofs.Common.{sym}
 use Rattle.reo_outline.specs.Outline.{region_lines}
 use Rattle.reo_outline.proofs.AddsLemmas.{numbered_more, region_added}
 use Rattle.reo_outline.proofs.outline.push_regions.Goals as goal

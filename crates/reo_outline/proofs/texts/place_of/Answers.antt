@@ -1,6 +1,5 @@
-use Rattle.std.proofs.Common.{◌≡◌, ap, ◌∙◌, arith, length, slice_index_or}
+use Rattle.std.proofs.Common.{ap, ◌∙◌, arith, length, slice_index_or}
 use Rattle.reo_net.specs.Names.{name_count}
-use Rattle.reo_outline.specs.Texts.{texts_below}
 use Rattle.reo_outline.proofs.TextLemmas.{below_longer}
 use Rattle.reo_outline.proofs.texts.place_of.Goals as goal
 
