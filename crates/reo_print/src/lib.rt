@@ -8,3 +8,4 @@ pub mod laws;
 mod line;
 
 pub use document::print_document;
+pub use line::push_rest;

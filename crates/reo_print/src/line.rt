@@ -26,8 +26,8 @@ fn push_kind(buffer: &mut Vec<u8>, kind: &Kind) -> Result<(), AllocError>
     }
 }
 
-// What stands behind the nodes of a channel.
-fn push_rest(buffer: &mut Vec<u8>, texts: &Lexicon, kind: &Kind) -> Result<(), AllocError>
+/// Appends what stands behind the nodes of a channel: its guard, its function, or its datum.
+pub fn push_rest(buffer: &mut Vec<u8>, texts: &Lexicon, kind: &Kind) -> Result<(), AllocError>
     ensures { Adds buffer.old buffer.new result (kind_rest texts.now kind.now) }
 {
     match kind {

@@ -1,0 +1,3 @@
+pub mod AddsLemmas
+pub mod QuoteLemmas
+pub mod LineLemmas
