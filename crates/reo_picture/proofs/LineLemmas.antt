@@ -1,5 +1,5 @@
 -- Lines with no LF in them, and what is cut at LFs.
-use Rattle.std.proofs.Common.{◌≡◌, ℕ, zero, suc, ◌+◌, ◌/◌, ◌%◌, ◌<◌, ◌≤◌, ◌==◌, nat_lt, Bool, true, false, not, ◌&&◌, if◌then◌else◌, List, [], ◌∷◌, ◌++◌, map, flat_map, Some, None, codes, decimal, refl, sym, ap, ◌∙◌, arith}
+use Rattle.std.proofs.Common.{◌≡◌, ℕ, zero, suc, ◌+◌, ◌/◌, ◌%◌, ◌≤◌, ◌==◌, nat_lt, Bool, true, false, not, ◌&&◌, if◌then◌else◌, List, [], ◌∷◌, ◌++◌, map, flat_map, codes, decimal, refl, ap, ◌∙◌, arith}
 use Rattle.std.specs.List.{list_all, range_with_len}
 use Rattle.std.specs.Fmt.{digit_glyph, digits_onto, digits}
 use Rattle.std.proofs.lemmas.Bool.{and_parts, eqb-true, ltb-false, false≢true}
@@ -10,13 +10,12 @@ use Rattle.reo_net.specs.Kind.{is_fifo}
 use Rattle.reo_net.specs.declared.kind.Kind.{Kind}
 use Rattle.reo_net.specs.declared.kind.Kind.TheVariants.{Sync, Lossy, Drain, Fifo, Filter, Transform}
 use Rattle.reo_net.specs.declared.circuit.Channel.{Channel}
-use Rattle.reo_net.specs.declared.circuit.Port.{Port}
 use Rattle.reo_net.specs.declared.circuit.RawCircuit.{RawCircuit}
 use Rattle.reo_cut.specs.declared.cut.Cut.{Cut}
 use Rattle.reo_document.specs.Lines.{onto_first, parts_of}
 use Rattle.reo_print.proofs.TextLemmas.{not_so}
 use Rattle.reo_value.specs.Lexicon.{text_at}
-use Rattle.reo_picture.specs.Picture.{quoted_byte, quoted, opening, region_line, region_of_node, node_front, node_line, port_style, port_line, channel_style, arrow_style, mark_text, arrow_front, arrow_head, arrow_line, datum_text, box_front, arrow_in, arrow_out, box_line, channel_line, lines_from, picture_lines, ended, picture_text}
+use Rattle.reo_picture.specs.Picture.{quoted_byte, quoted, opening, region_line, region_of_node, node_front, node_line, port_line, arrow_style, mark_text, arrow_front, arrow_head, arrow_line, datum_text, box_front, arrow_in, arrow_out, box_line, channel_line, lines_from, picture_lines, ended, picture_text}
 
 abbrev no_feed : ℕ → Bool
 no_feed byte = not (byte == 10)

@@ -2,14 +2,12 @@
 use Rattle.std.specs.Prelude.{ℕ, ◌+◌, ◌%◌, ◌==◌, nat_lt, if◌then◌else◌, List, [], ◌∷◌, ◌++◌, length, map, flat_map, slice_get, Option, Some, None, codes, decimal}
 use Rattle.std.specs.List.{range_with_len}
 use Rattle.reo_value.specs.Lexicon.{text_at}
-use Rattle.reo_value.specs.declared.value.Value.{Value}
 use Rattle.reo_value.specs.declared.op.Way.{Way}
 use Rattle.reo_value.specs.declared.op.Way.TheVariants.{Put, Get}
 use Rattle.reo_net.specs.Kind.{is_fifo}
 use Rattle.reo_net.specs.declared.kind.Kind.{Kind}
 use Rattle.reo_net.specs.declared.kind.Kind.TheVariants.{Sync, Lossy, Drain, Fifo, Filter, Transform}
 use Rattle.reo_net.specs.declared.circuit.Channel.{Channel}
-use Rattle.reo_net.specs.declared.circuit.Port.{Port}
 use Rattle.reo_net.specs.declared.circuit.RawCircuit.{RawCircuit}
 use Rattle.reo_cut.specs.declared.cut.Cut.{Cut}
 use Rattle.reo_trace.specs.ReportText.{value_text}

@@ -1,4 +1,4 @@
-use Rattle.std.proofs.Common.{refl, get_or}
+use Rattle.std.proofs.Common.{refl}
 use Rattle.reo_picture.specs.Picture.{ended, port_line}
 use Rattle.reo_picture.proofs.AddsLemmas.{numbered_next}
 use Rattle.reo_picture.proofs.picture.push_ports.Goals as goal
