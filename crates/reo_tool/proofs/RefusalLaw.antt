@@ -29,7 +29,7 @@ not_too_large c root count large tabled =
     large
 
 -- a circuit that is refused does not pass the checks
-not_accepted : (c : RawCircuit) (refused : CheckRefusal) → Refuses c refused → refused ≢ check.NoMemory → IsChecked c → ⊥
+pub not_accepted : (c : RawCircuit) (refused : CheckRefusal) → Refuses c refused → refused ≢ check.NoMemory → IsChecked c → ⊥
 not_accepted c (check.TooManyChannels count) r named checked = omega (arith, r.0, checked.few_channels)
 not_accepted c (check.TooManyPorts count) r named checked = omega (arith, r.1, checked.few_ports)
 not_accepted c (check.PortTwice node) r named checked = checked.one_port node r.2.0

@@ -24,7 +24,7 @@ use reo_value::Lexicon;
 use std::alloc::{AllocError, Global};
 
 /// The most bytes of a document.
-const MOST_BYTES: usize = 1_048_576;
+pub const MOST_BYTES: usize = 1_048_576;
 
 /// What a document is run by: its net, the cut of it and the tables of its regions.
 pub fn prepare_document(alloc: Global, document: &Document) -> Result<Prepared, SessionRefusal>
@@ -60,7 +60,7 @@ fn outline(alloc: Global, document: &Document, prepared: &Prepared) -> Result<Ve
 }
 
 /// Writes a text and gives the status, or the status of a failed write.
-fn tell<E: Sink>(sink: &mut E, text: &[u8], status: Status) -> Status
+pub fn tell<E: Sink>(sink: &mut E, text: &[u8], status: Status) -> Status
     ensures told { IsWritten (sink_seen E.Sink sink.old) (sink_seen E.Sink sink.new) text.now status result }
 {
     let written = write_whole(sink, text);
@@ -84,7 +84,7 @@ fn is_memory(refusal: TextRefusal) -> bool
 }
 
 /// Tells why bytes are no document.
-fn tell_text<E: Sink>(alloc: Global, err: &mut E, refusal: TextRefusal) -> Status
+pub fn tell_text<E: Sink>(alloc: Global, err: &mut E, refusal: TextRefusal) -> Status
     ensures told { IsTold (sink_seen E.Sink err.old) (sink_seen E.Sink err.new) (text_text refusal) Status.Refused result }
     ensures memory { refusal ≡ TextRefusal.NoMemory → IsWritten (sink_seen E.Sink err.old) (sink_seen E.Sink err.new) out_of_memory_text Status.Memory result }
 {
@@ -107,7 +107,7 @@ fn is_want_of_memory(refusal: SessionRefusal) -> bool
 }
 
 /// Tells why a document can not be run.
-fn tell_session<E: Sink>(
+pub fn tell_session<E: Sink>(
     alloc: Global,
     err: &mut E,
     nodes: &Lexicon,

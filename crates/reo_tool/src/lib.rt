@@ -6,6 +6,9 @@ mod command;
 mod fault_text;
 mod status;
 
-pub use call::{plain_call, prepare_document, tell_memory};
+pub use call::{
+    MOST_BYTES, plain_call, prepare_document, tell, tell_memory, tell_session, tell_text,
+};
 pub use command::Command;
+pub use fault_text::{READ_FAILED, TOO_LONG};
 pub use status::Status;
