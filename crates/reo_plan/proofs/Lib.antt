@@ -12,3 +12,5 @@ pub mod DeciderLaw
 pub mod FitLaw
 pub mod FirstLaw
 pub mod BackLaw
+pub mod MarkLemmas
+pub mod AskLemmas

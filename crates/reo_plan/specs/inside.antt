@@ -5,3 +5,5 @@ pub mod Rows
 pub mod Plans
 pub mod Sides
 pub mod Back
+pub mod Marks
+pub mod Asks

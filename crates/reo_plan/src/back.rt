@@ -79,17 +79,37 @@ pub(crate) fn reading_back(alloc: Global, entry: &Entry) -> Result<Reading, Allo
 fn add_pair(
     pairs: &mut Items<(u32, Value)>,
     name: u32,
-    value: Option<Value>,
+    value: &Option<Value>,
 ) -> Result<(), AllocError>
-    ensures { OnOk result (pairs.new ≡ pairs.old ++ one_place name value) }
+    ensures { OnOk result (pairs.new ≡ pairs.old ++ one_place name value.now) }
 {
     match value {
-        Some(value) => pairs.push((name, value)),
+        Some(value) => pairs.push((name, *value)),
         None => Ok(()),
     }
 }
 
-/// The names with the values of their slots.
+/// A slot with its value, which need not be found anew for the slot that is known.
+fn slot_again(
+    net: &Net,
+    texts: &Lexicon,
+    reading: &Reading,
+    slots: &[Giver],
+    known: &(u32, Option<Value>),
+    slot: u32,
+) -> (u32, Option<Value>)
+    requires { known.now.1 ≡ slot_value net.now texts.now (sources_of reading.now) slots.now known.now.0 }
+    ensures slot { result.0 ≡ slot }
+    ensures value { result.1 ≡ slot_value net.now texts.now (sources_of reading.now) slots.now slot }
+{
+    if known.0 == slot {
+        *known
+    } else {
+        (slot, slot_value(net, texts, reading, slots, slot))
+    }
+}
+
+/// The names with the values of their slots. Names that follow one another mostly share a slot.
 pub(crate) fn pairs_of(
     alloc: Global,
     net: &Net,
@@ -101,12 +121,10 @@ pub(crate) fn pairs_of(
     ensures { IfOk result (λ pairs. pairs ≡ values_at (slot_value net.now texts.now (sources_of reading.now) slots.now) named.now) }
 {
     let mut pairs = Items::new(alloc);
+    let mut known = (0, slot_value(net, texts, reading, slots, 0));
     for place in named {
-        add_pair(
-            &mut pairs,
-            place.0,
-            slot_value(net, texts, reading, slots, place.1),
-        )?;
+        known = slot_again(net, texts, reading, slots, &known, place.1);
+        add_pair(&mut pairs, place.0, &known.1)?;
     }
     Ok(pairs)
 }

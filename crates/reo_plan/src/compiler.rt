@@ -8,6 +8,7 @@ ghost use Rattle.reo_plan.specs.Plan.{firings_in};
 ghost use Rattle.reo_plan.specs.inside.Rows.{IsRow};
 ghost use Rattle.reo_plan.specs.inside.Plans.{AreRows, ArePlans, IsOfNames};
 
+use crate::asks::presence_first;
 use crate::facts::facts_of;
 use crate::givers::givers;
 use crate::places::{cell_slots, named_slots, port_slots, slot_table};
@@ -35,7 +36,8 @@ pub(crate) fn row_of(
     let mut slots = Items::new(alloc);
     let slot_of = slot_table(alloc, net, &givers, names, &mut slots)?;
     let table = slot_of.as_slice();
-    let facts = facts_of(alloc, net, numbers, table, names)?;
+    let asked = facts_of(alloc, net, numbers, table, names)?;
+    let facts = presence_first(alloc, slots.as_slice(), asked.as_slice())?;
     let takes = cell_slots(alloc, net, cells, table, true)?;
     let fills = cell_slots(alloc, net, cells, table, false)?;
     let puts = port_slots(alloc, net, table, true)?;

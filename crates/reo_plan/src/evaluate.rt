@@ -1,14 +1,12 @@
 //! What a reading says of slots and facts.
 ghost use Rattle.std.specs.Prelude.{◌≡◌, map, if◌then◌else◌, not, false};
 ghost use Rattle.std.specs.Option.{option_and_then, option_map_or};
-ghost use Rattle.std.specs.List.{list_all};
 ghost use Rattle.reo_value.specs.Code.{IsValue};
 ghost use Rattle.reo_fabric.specs.Entry.{at_place};
 ghost use Rattle.reo_flow.specs.Tests.{is_met, yielded, decoded};
 ghost use Rattle.reo_flow.specs.Flow.{sources_of, offered_value, is_offered, is_empty, image_of_kind, image_at, met_by_kind, met_at, flow, is_so};
 ghost use Rattle.reo_plan.specs.inside.Slots.{slot_at, slot_value};
 
-use crate::row::Row;
 use crate::slots::giver_at;
 use reo_fabric::Reading;
 use reo_flow::{Fact, Giver};
@@ -213,7 +211,13 @@ fn is_met_in(net: &Net, texts: &Lexicon, number: u32, datum: Option<Value>, want
 }
 
 /// Whether a fact is so.
-fn is_so(net: &Net, texts: &Lexicon, reading: &Reading, slots: &[Giver], fact: &Fact) -> bool
+pub(crate) fn is_so(
+    net: &Net,
+    texts: &Lexicon,
+    reading: &Reading,
+    slots: &[Giver],
+    fact: &Fact,
+) -> bool
     ensures { result ≡ is_so net.now texts.now reading.now (slot_value net.now texts.now (sources_of reading.now) slots.now) fact.now }
 {
     match fact {
@@ -229,11 +233,4 @@ fn is_so(net: &Net, texts: &Lexicon, reading: &Reading, slots: &[Giver], fact: &
             is_met_in(net, texts, *channel, datum, false)
         }
     }
-}
-
-/// Whether all that a row asks is so.
-pub(crate) fn row_fits(net: &Net, texts: &Lexicon, reading: &Reading, row: &Row) -> bool
-    ensures { result ≡ list_all (is_so net.now texts.now reading.now (slot_value net.now texts.now (sources_of reading.now) row.now.slots)) row.now.facts }
-{
-    row.facts.as_slice().iter().all(|fact| is_so(net, texts, reading, row.slots.as_slice(), fact))
 }

@@ -28,7 +28,7 @@ pub(crate) fn slot_in(table: &[Option<u32>], name: u32) -> Option<u32>
     }
 }
 
-fn same(x: &Fact, y: Fact) -> bool
+pub(crate) fn is_same(x: &Fact, y: Fact) -> bool
     ensures { IsTrue result ↔ (x.now ≡ y) }
 {
     *x == y
@@ -38,7 +38,7 @@ fn is_among(facts: &[Fact], fact: Fact) -> bool
     ensures { OnTrue result ((p : AnyFact → Bool) → list_all p facts.now ≡ (list_all p facts.now && p fact)) }
 {
     for other in facts {
-        if same(other, fact) {
+        if is_same(other, fact) {
             return true;
         }
     }

@@ -1,12 +1,15 @@
 //! Data plans: what a region's firings read and do, made once, and the choice of the first that a reading allows.
 #![tactic(auto)]
 
+mod asks;
 mod back;
 mod compiler;
 mod evaluate;
 mod facts;
+mod first;
 mod givers;
 pub mod laws;
+mod marks;
 mod places;
 mod plans;
 mod row;

@@ -11,9 +11,10 @@ ghost use Rattle.reo_flow.proofs.PlanLaw.{chooses_planned};
 ghost use Rattle.reo_plan.specs.Plan.{PlanState, firings_in, plan_of};
 ghost use Rattle.reo_plan.specs.inside.Plans.{fits};
 
+use crate::asks::{Shared, shared_in};
 use crate::back::{pairs_of, reading_back};
 use crate::compiler::plans_of;
-use crate::evaluate::row_fits;
+use crate::first::first_row;
 use crate::givers::cell_numbers;
 use crate::row::Row;
 use crate::write::write_row;
@@ -33,6 +34,7 @@ pub struct Plan<'a> {
     texts: &'a Lexicon,
     tables: &'a [RegionTable],
     plans: Items<Items<Row>>,
+    shared: Items<Shared>,
 }
 
 impl<'a> Model for Plan<'a> {
@@ -42,6 +44,7 @@ impl<'a> Model for Plan<'a> {
     ghost use Rattle.reo_plan.specs.Plan.{PlanState as State, firings_in, plan_of};
     ghost use Rattle.reo_flow.specs.Allows.{AreTables};
     ghost use Rattle.reo_plan.specs.inside.Plans.{ArePlans};
+    ghost use Rattle.reo_plan.specs.inside.Asks.{AreShared};
 
     ghost Value = { State };
 
@@ -49,15 +52,7 @@ impl<'a> Model for Plan<'a> {
 
     ghost view = { λ p. plan_of p.net.now p.texts.now p.tables.now };
 
-    ghost invariant = { λ p. AreTables p.net.now (map firings_in p.tables.now) × ArePlans p.net.now (map firings_in p.tables.now) p.plans };
-}
-
-/// The first row of which all facts are so.
-fn first_row(net: &Net, texts: &Lexicon, reading: &Reading, rows: &[Row]) -> Option<usize>
-    ensures { result ≡ position (fits net.now texts.now reading.now) rows.now }
-{
-    rows.iter()
-        .position(|row| row_fits(net, texts, reading, row))
+    ghost invariant = { λ p. AreTables p.net.now (map firings_in p.tables.now) × ArePlans p.net.now (map firings_in p.tables.now) p.plans × AreShared p.net.now p.plans p.shared };
 }
 
 /// A plan of a circuit that is cut so, and whose regions have these tables.
@@ -74,11 +69,13 @@ pub fn compile<'a>(
 {
     let numbers = cell_numbers(alloc, net)?;
     let plans = plans_of(alloc, net, &numbers, cut.cells.as_slice(), tables)?;
+    let shared = shared_in(alloc, plans.as_slice())?;
     Ok(Plan {
         net,
         texts,
         tables,
         plans,
+        shared,
     })
 }
 
@@ -94,7 +91,8 @@ impl<'a> Decider for Plan<'a> {
 
     fn choose(&self, region: u32, reading: &Reading) -> Option<Choice> {
         let rows = at(self.plans.as_slice(), region as usize)?;
-        let first = first_row(self.net, self.texts, reading, rows.as_slice())?;
+        let shared = &self.shared.as_slice()[region as usize];
+        let first = first_row(self.net, self.texts, reading, shared, rows.as_slice())?;
         Some(Choice(first as u32))
     }
 

@@ -5,4 +5,6 @@ use Rattle.reo_plan.specs.inside.Rows.{values_at}
 use Rattle.reo_plan.proofs.back.pairs_of.Given as goal
 
 abbrev pub invariant-loop-place : goal.invariant-loop-place
-invariant-loop-place l = l.pairs ≡ values_at (slot_value l.net l.texts (sources_of l.reading) l.slots) (take l.place-index l.named)
+invariant-loop-place l =
+    (l.known.1 ≡ slot_value l.net l.texts (sources_of l.reading) l.slots l.known.0)
+    × (l.pairs ≡ values_at (slot_value l.net l.texts (sources_of l.reading) l.slots) (take l.place-index l.named))

@@ -1,0 +1,254 @@
+//! What the firings of a region ask, by the numbers of the facts that they share.
+ghost use Rattle.std.specs.Prelude.{◌≡◌, ◌+◌, List, ◌∷◌, [], ◌++◌, slice_get, Some, IfOk, IfSome, OnOk, Bool, ◌&&◌};
+ghost use Rattle.std.specs.List.{list_all};
+ghost use Rattle.reo_net.specs.declared.circuit.RawCircuit.{RawCircuit};
+ghost use Rattle.reo_flow.specs.declared.fact.Fact.{Fact as AnyFact};
+ghost use Rattle.reo_plan.specs.inside.Slots.{slot_at, AreOrdered, AreMore, Extends, HasFlow};
+ghost use Rattle.reo_plan.specs.inside.Asks.{is_direct, is_presence, IsSameFact, IsNumbered, HasAsks, IsAsks, AreAsks, AreShared};
+
+use crate::facts::is_same;
+use crate::marks::mask_of;
+use crate::row::Row;
+use crate::slots::{giver_at, slot_of};
+use reo_flow::{Fact, Giver};
+use sqlite_items::Items;
+use std::alloc::{AllocError, Global};
+
+/// What one firing asks: facts that it shares, by number and as a mask of the first 64, and others in slots of its own.
+#[derive(Drop)]
+pub(crate) struct Asks {
+    pub(crate) mask: u64,
+    pub(crate) numbers: Items<u32>,
+    pub(crate) rest: Items<Fact>,
+}
+
+/// The facts that firings of a region share, with the slots of their data, and what each firing asks.
+#[derive(Drop)]
+pub(crate) struct Shared {
+    pub(crate) slots: Items<Giver>,
+    pub(crate) facts: Items<Fact>,
+    pub(crate) asks: Items<Asks>,
+}
+
+fn is_direct(giver: &Giver) -> bool
+    ensures { result ≡ is_direct giver.now }
+{
+    match giver {
+        Giver::Unfed => true,
+        Giver::Cell(_) => true,
+        Giver::Port(_) => true,
+        Giver::Same(_) => false,
+        Giver::Image(_, _) => false,
+    }
+}
+
+/// Whether the fact asks no guard and no function: something is offered, or a cell is empty or full.
+pub(crate) fn is_presence(slots: &[Giver], fact: &Fact) -> bool
+    ensures { result ≡ is_presence slots.now fact.now }
+{
+    match fact {
+        Fact::Offered(_) => true,
+        Fact::Empty(_) => true,
+        Fact::Known(slot) => is_direct(&giver_at(slots, *slot)),
+        Fact::Met(_, _) => false,
+        Fact::Failed(_, _) => false,
+    }
+}
+
+/// Adds a fact to the one list or the other.
+fn add_to(
+    first: &mut Items<Fact>,
+    second: &mut Items<Fact>,
+    fact: &Fact,
+    is_first: bool,
+) -> Result<(), AllocError>
+    ensures { OnOk result ((p : AnyFact → Bool) → (list_all p first.new && list_all p second.new) ≡ ((list_all p first.old && list_all p second.old) && p fact.now)) }
+{
+    if is_first {
+        first.push(*fact)
+    } else {
+        second.push(*fact)
+    }
+}
+
+fn add_all(facts: &mut Items<Fact>, more: &[Fact]) -> Result<(), AllocError>
+    ensures { OnOk result ((p : AnyFact → Bool) → list_all p facts.new ≡ (list_all p facts.old && list_all p more.now)) }
+{
+    for fact in more {
+        facts.push(*fact)?;
+    }
+    Ok(())
+}
+
+/// The facts, with those of presence before the others.
+pub(crate) fn presence_first(
+    alloc: Global,
+    slots: &[Giver],
+    facts: &[Fact],
+) -> Result<Items<Fact>, AllocError>
+    ensures { IfOk result (λ sorted. (p : AnyFact → Bool) → list_all p sorted ≡ list_all p facts.now) }
+{
+    let mut first = Items::new(alloc);
+    let mut second = Items::new(alloc);
+    for fact in facts {
+        add_to(&mut first, &mut second, fact, is_presence(slots, fact))?;
+    }
+    add_all(&mut first, second.as_slice())?;
+    Ok(first)
+}
+
+/// The shared slot with what is in a slot of a row.
+fn shared_slot(own: &[Giver], slots: &mut Items<Giver>, slot: u32) -> Result<u32, AllocError>
+    requires { AreOrdered slots.old }
+    ensures more { OnOk result (AreMore slots.old slots.new) }
+    ensures flow { IfOk result (λ other. (c : RawCircuit) → HasFlow c (slot_at own.now) (slot + 1) slot slots.new other) }
+{
+    if slot == u32::MAX {
+        return Err(AllocError);
+    }
+    slot_of(own, slots, slot + 1, slot)
+}
+
+/// The fact with its datum in a shared slot.
+fn shared_fact(own: &[Giver], slots: &mut Items<Giver>, fact: Fact) -> Result<Fact, AllocError>
+    requires { AreOrdered slots.old }
+    ensures more { OnOk result (AreMore slots.old slots.new) }
+    ensures same { IfOk result (λ other. (c : RawCircuit) → IsSameFact c own.now fact slots.new other) }
+{
+    match fact {
+        Fact::Offered(port) => Ok(Fact::Offered(port)),
+        Fact::Empty(cell) => Ok(Fact::Empty(cell)),
+        Fact::Known(slot) => {
+            let other = shared_slot(own, slots, slot)?;
+            Ok(Fact::Known(other))
+        }
+        Fact::Met(channel, slot) => {
+            let other = shared_slot(own, slots, slot)?;
+            Ok(Fact::Met(channel, other))
+        }
+        Fact::Failed(channel, slot) => {
+            let other = shared_slot(own, slots, slot)?;
+            Ok(Fact::Failed(channel, other))
+        }
+    }
+}
+
+/// The number of this fact, if there is one.
+fn found_fact(facts: &[Fact], fact: Fact) -> Option<u32>
+    ensures { IfSome result (λ number. slice_get facts.now number ≡ Some fact) }
+{
+    for number in 0..facts.len() {
+        if is_same(&facts[number], fact) {
+            return u32::try_from(number).ok();
+        }
+    }
+    None
+}
+
+/// The number of this fact among at most 64: one that there is, or a new one.
+fn number_of(facts: &mut Items<Fact>, fact: Fact) -> Result<Option<u32>, AllocError>
+    ensures more { OnOk result (Extends facts.old facts.new) }
+    ensures number { IfOk result (λ found. IfSome found (λ number. slice_get facts.new number ≡ Some fact)) }
+{
+    if let Some(number) = found_fact(facts.as_slice(), fact) {
+        return Ok(Some(number));
+    }
+    if facts.len() >= 64 {
+        return Ok(None);
+    }
+    let number = facts.len() as u32;
+    facts.push(fact)?;
+    Ok(Some(number))
+}
+
+/// The number of the shared fact that says the same, if it is to have one. Few slots that functions fill are shared.
+fn shared_number(
+    own: &[Giver],
+    slots: &mut Items<Giver>,
+    facts: &mut Items<Fact>,
+    fact: Fact,
+) -> Result<Option<u32>, AllocError>
+    requires { AreOrdered slots.old }
+    ensures slots { OnOk result (AreMore slots.old slots.new) }
+    ensures facts { OnOk result (Extends facts.old facts.new) }
+    ensures number { IfOk result (λ found. IfSome found (λ number. (c : RawCircuit) → IsNumbered c own.now fact slots.new facts.new number)) }
+{
+    if slots.len() >= 256 {
+        return Ok(None);
+    }
+    let other = shared_fact(own, slots, fact)?;
+    number_of(facts, other)
+}
+
+/// Adds a fact to what a row asks.
+fn add_ask(
+    own: &[Giver],
+    slots: &mut Items<Giver>,
+    facts: &mut Items<Fact>,
+    numbers: &mut Items<u32>,
+    rest: &mut Items<Fact>,
+    fact: Fact,
+) -> Result<(), AllocError>
+    requires { AreOrdered slots.old }
+    ensures slots { OnOk result (AreMore slots.old slots.new) }
+    ensures facts { OnOk result (Extends facts.old facts.new) }
+    ensures asks { OnOk result ((c : RawCircuit) (done : List AnyFact) → HasAsks c slots.old facts.old own.now done numbers.old rest.old → HasAsks c slots.new facts.new own.now (done ++ fact ∷ []) numbers.new rest.new) }
+{
+    match shared_number(own, slots, facts, fact)? {
+        Some(number) => numbers.push(number),
+        None => rest.push(fact),
+    }
+}
+
+/// What a row asks.
+fn asks_of(
+    alloc: Global,
+    slots: &mut Items<Giver>,
+    facts: &mut Items<Fact>,
+    row: &Row,
+) -> Result<Asks, AllocError>
+    requires { AreOrdered slots.old }
+    ensures slots { OnOk result (AreMore slots.old slots.new) }
+    ensures facts { OnOk result (Extends facts.old facts.new) }
+    ensures asks { IfOk result (λ asks. (c : RawCircuit) → IsAsks c slots.new facts.new row.now asks) }
+{
+    let own = row.slots.as_slice();
+    let mut numbers = Items::new(alloc);
+    let mut rest = Items::new(alloc);
+    let asked = row.facts.as_slice();
+    for fact in asked {
+        add_ask(own, slots, facts, &mut numbers, &mut rest, *fact)?;
+    }
+    let mask = mask_of(numbers.as_slice());
+    Ok(Asks {
+        mask,
+        numbers,
+        rest,
+    })
+}
+
+/// What the rows of a region ask.
+fn shared_by(alloc: Global, rows: &[Row]) -> Result<Shared, AllocError>
+    ensures { IfOk result (λ shared. (c : RawCircuit) → AreAsks c shared.slots shared.facts rows.now shared.asks) }
+{
+    let mut slots = Items::new(alloc);
+    let mut facts = Items::new(alloc);
+    let mut asks = Items::new(alloc);
+    for row in rows {
+        let own = asks_of(alloc, &mut slots, &mut facts, row)?;
+        asks.push(own)?;
+    }
+    Ok(Shared { slots, facts, asks })
+}
+
+/// What the rows of all regions ask.
+pub(crate) fn shared_in(alloc: Global, plans: &[Items<Row>]) -> Result<Items<Shared>, AllocError>
+    ensures { IfOk result (λ shared. (c : RawCircuit) → AreShared c plans.now shared) }
+{
+    let mut all = Items::new(alloc);
+    for rows in plans {
+        let shared = shared_by(alloc, rows.as_slice())?;
+        all.push(shared)?;
+    }
+    Ok(all)
+}

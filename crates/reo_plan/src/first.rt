@@ -1,0 +1,141 @@
+//! The first of a region's firings that a reading allows.
+ghost use Rattle.std.specs.Prelude.{◌≡◌, position};
+ghost use Rattle.std.specs.List.{list_all};
+ghost use Rattle.reo_plan.specs.inside.Marks.{AreMarks};
+ghost use Rattle.reo_plan.specs.inside.Asks.{so_in, number_so, IsAsks, AreAsks};
+ghost use Rattle.reo_plan.specs.inside.Plans.{fits};
+
+use crate::asks::{Asks, Shared};
+use crate::evaluate::is_so;
+use crate::marks::{Marks, is_known, mark, no_marks};
+use crate::row::Row;
+use reo_fabric::Reading;
+use reo_flow::{Fact, Giver};
+use reo_net::Net;
+use reo_value::Lexicon;
+use sqlite_items::at;
+
+fn number_so(
+    net: &Net,
+    texts: &Lexicon,
+    reading: &Reading,
+    slots: &[Giver],
+    facts: &[Fact],
+    number: u32,
+) -> bool
+    ensures { result ≡ number_so net.now texts.now reading.now slots.now facts.now number }
+{
+    match at(facts, number as usize) {
+        Some(fact) => is_so(net, texts, reading, slots, fact),
+        None => false,
+    }
+}
+
+/// Whether the fact with this number is so, as it is marked or else as it is found.
+fn found_so(
+    net: &Net,
+    texts: &Lexicon,
+    reading: &Reading,
+    slots: &[Giver],
+    facts: &[Fact],
+    marks: &mut Marks,
+    number: u32,
+) -> bool
+    requires { AreMarks (number_so net.now texts.now reading.now slots.now facts.now) marks.old }
+    ensures so { result ≡ number_so net.now texts.now reading.now slots.now facts.now number }
+    ensures marks { AreMarks (number_so net.now texts.now reading.now slots.now facts.now) marks.new }
+{
+    if is_known(marks, number) {
+        return true;
+    }
+    let is_so = number_so(net, texts, reading, slots, facts, number);
+    mark(marks, number, is_so);
+    is_so
+}
+
+/// Whether the facts with these numbers are so.
+fn all_found_so(
+    net: &Net,
+    texts: &Lexicon,
+    reading: &Reading,
+    slots: &[Giver],
+    facts: &[Fact],
+    marks: &mut Marks,
+    numbers: &[u32],
+) -> bool
+    requires { AreMarks (number_so net.now texts.now reading.now slots.now facts.now) marks.old }
+    ensures so { result ≡ list_all (number_so net.now texts.now reading.now slots.now facts.now) numbers.now }
+    ensures marks { AreMarks (number_so net.now texts.now reading.now slots.now facts.now) marks.new }
+{
+    for number in numbers {
+        if !found_so(net, texts, reading, slots, facts, marks, *number) {
+            return false;
+        }
+    }
+    true
+}
+
+/// Whether these facts are so.
+fn all_so(net: &Net, texts: &Lexicon, reading: &Reading, slots: &[Giver], facts: &[Fact]) -> bool
+    ensures { result ≡ list_all (so_in net.now texts.now reading.now slots.now) facts.now }
+{
+    facts
+        .iter()
+        .all(|fact| is_so(net, texts, reading, slots, fact))
+}
+
+/// Whether all that a row asks is so.
+fn row_fits(
+    net: &Net,
+    texts: &Lexicon,
+    reading: &Reading,
+    shared: &Shared,
+    marks: &mut Marks,
+    row: &Row,
+    asks: &Asks,
+) -> bool
+    requires asks { IsAsks net.now shared.now.slots shared.now.facts row.now asks.now }
+    requires marks { AreMarks (number_so net.now texts.now reading.now shared.now.slots shared.now.facts) marks.old }
+    ensures fits { result ≡ fits net.now texts.now reading.now row.now }
+    ensures marks { AreMarks (number_so net.now texts.now reading.now shared.now.slots shared.now.facts) marks.new }
+{
+    if marks.failed & asks.mask != 0 {
+        return false;
+    }
+    let slots = shared.slots.as_slice();
+    let facts = shared.facts.as_slice();
+    let numbers = asks.numbers.as_slice();
+    if !all_found_so(net, texts, reading, slots, facts, marks, numbers) {
+        return false;
+    }
+    all_so(
+        net,
+        texts,
+        reading,
+        row.slots.as_slice(),
+        asks.rest.as_slice(),
+    )
+}
+
+/// The first row of which all facts are so. A row with a fact that has failed is passed over by one look at its mask.
+pub(crate) fn first_row(
+    net: &Net,
+    texts: &Lexicon,
+    reading: &Reading,
+    shared: &Shared,
+    rows: &[Row],
+) -> Option<usize>
+    requires { AreAsks net.now shared.now.slots shared.now.facts rows.now shared.now.asks }
+    ensures { result ≡ position (fits net.now texts.now reading.now) rows.now }
+{
+    let mut marks = no_marks();
+    let asks = shared.asks.as_slice();
+    for row in 0..rows.len() {
+        if row_fits(
+            net, texts, reading, shared, &mut marks, &rows[row], &asks[row],
+        ) {
+            return Some(row);
+        }
+    }
+    None
+}
