@@ -60,6 +60,13 @@ def puts_out(circuit, items):
     return circuit + ["component P"] + [f"put A {k}" for k in range(items)]
 
 
+def filters(width, items):
+    """Filters from one put port to get ports: the datum decides which of all the firings is chosen."""
+    lines = ["in A"] + [line for k in range(width) for line in (f"filter A B{k} x mod {k + 2} = 0", f"out B{k}")]
+    lines += ["component P"] + [f"put A {7 * k + 1}" for k in range(items)]
+    return lines + [line for k in range(width) for line in [f"component Q{k}"] + [f"get B{k}"] * items]
+
+
 CASES = [
     ("all limits", "plan", limits()),
     ("fan of 4,096 firings", "plan", fan(12)),
@@ -68,6 +75,7 @@ CASES = [
     ("20,000 choices of a router", "run --plain", router(20_000)),
     ("12,000 choices of a merger of twelve", "run --plain", puts_into(merger(12), 12, 12_000)),
     ("1,000 choices among 4,096 firings", "run --plain", puts_out(fan(12), 1_000)),
+    ("1,000 choices by data among 4,096 firings", "run --plain", filters(12, 1_000)),
     ("2,000 data through 64 Syncs", "run --plain", syncs(64, 2_000)),
 ]
 
