@@ -72,6 +72,24 @@ const ROWS: &[Row] = &[
     ),
     (
         RUN,
+        "in A\nfifo A B\nout B\ncomponent P\nput A 1\nput A 2\n",
+        Status::Stuck,
+        "step 0 A!=1 1.a=1\ncall P put A 1 at 0\nend stuck\n",
+    ),
+    (
+        RUN,
+        "in A\ntransform A B + 1\nfilter B C x > 3\nout C\ncomponent P\nput A 2\nput A 3\nput A \"t\"\ncomponent Q\nget C\n",
+        Status::Stuck,
+        "step 0 A!=2 1.a=2 1.b=3 2.a=3\nstep 1 A!=3 C?=4 1.a=3 1.b=4 2.a=4 2.b=4\ncall P put A 2 at 0\ncall P put A 3 at 1\ncall Q get C 4 at 1\nend stuck\n",
+    ),
+    (
+        RUN,
+        "in S\nfifo S A\nfilter A B x > 3\nfilter A C not x > 3\nout B\nout C\ncomponent P\nput S 5\nput S 1\ncomponent Q\nget B\ncomponent R\nget C\n",
+        Status::Done,
+        "step 0 S!=5 1.a=5\nstep 1 B?=5 1.b=5 2.a=5 2.b=5 3.a=5\nstep 2 S!=1 1.a=1\nstep 3 C?=1 1.b=1 2.a=1 3.a=1 3.b=1\ncall P put S 5 at 0\ncall P put S 1 at 2\ncall Q get B 5 at 1\ncall R get C 1 at 3\nend done\n",
+    ),
+    (
+        RUN,
         SHOP,
         Status::Done,
         "step 0 shop!=120 1.a=120\nstep 1 kiosk!=300 2.a=300\nstep 2 audit?=120 1.b=120 3.a=120 3.b=120 4.a=120 4.b=120 5.a=120 5.b=140 6.a=140\nstep 3 shop!=40 1.a=40\nstep 4 desk?=140 6.b=140\nstep 5 audit?=300 2.b=300 3.a=300 3.b=300 4.a=300 4.b=300 5.a=300 5.b=320 6.a=320\nstep 6 desk?=320 6.b=320\nstep 7 audit?=40 1.b=40 3.a=40 3.b=40 4.a=40\ncall Shop put shop 120 at 0\ncall Shop put shop 40 at 3\ncall Kiosk put kiosk 300 at 1\ncall Auditor get audit 120 at 2\ncall Auditor get audit 300 at 5\ncall Auditor get audit 40 at 7\ncall Desk get desk 140 at 4\ncall Desk get desk 320 at 6\nend done\n",
