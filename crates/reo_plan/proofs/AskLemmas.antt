@@ -1,16 +1,15 @@
 -- What rows ask by number is what they ask in slots of their own.
-use Rattle.std.proofs.Common.{◌≡◌, ℕ, zero, suc, ◌+◌, List, [], ◌∷◌, ◌++◌, length, slice_get, get_or, position, Option, Some, None, is_some, Bool, true, false, not, cond, nat_lt, ◌&&◌, ◌<◌, ◌≤◌, Result, Ok, Err, OnOk, refl, sym, ap, ◌∙◌, subst, arith}
-use Rattle.std.specs.List.{list_all, position_or_len}
+use Rattle.std.proofs.Common.{◌≡◌, ℕ, zero, suc, ◌+◌, List, [], ◌∷◌, ◌++◌, length, slice_get, get_or, position, Some, None, is_some, Bool, true, false, not, cond, nat_lt, ◌&&◌, ◌<◌, Result, Ok, Err, OnOk, refl, sym, ap, ◌∙◌, subst, arith}
+use Rattle.std.specs.List.{list_all}
 use Rattle.std.specs.Option.{option_map_or}
 use Rattle.std.specs.Int.RustNames.{bit_and}
-use Rattle.std.proofs.lemmas.Bool.{false≢true, lt-ltb, le-ltb}
+use Rattle.std.proofs.lemmas.Bool.{lt-ltb, le-ltb}
 use Rattle.std.proofs.lemmas.Option.{same_Some}
 use Rattle.std.proofs.lemmas.List.Sums.{position_or_len_is}
-use Rattle.reo_value.specs.declared.value.Value.{Value}
 use Rattle.reo_net.specs.declared.circuit.RawCircuit.{RawCircuit}
 use Rattle.reo_fabric.specs.declared.reading.Reading.{Reading}
 use Rattle.reo_flow.specs.declared.fact.Fact.{Fact}
-use Rattle.reo_flow.specs.declared.fact.Fact.TheVariants.{Offered, Empty, Known, Met, Failed}
+use Rattle.reo_flow.specs.declared.fact.Fact.TheVariants.{Known, Met, Failed}
 use Rattle.reo_flow.specs.declared.giver.Giver.{Giver}
 use Rattle.reo_flow.specs.Flow.{Sources, sources_of, flow, met_at}
 use Rattle.reo_plan.specs.declared.row.Row.{Row}
@@ -20,7 +19,7 @@ use Rattle.reo_plan.specs.declared.marks.Marks.{Marks}
 use Rattle.reo_plan.specs.inside.Slots.{slot_at, slot_value, AreOrdered, Extends, HasFlow}
 use Rattle.reo_plan.specs.inside.Marks.{AreMarks}
 use Rattle.reo_plan.specs.inside.Plans.{fits}
-use Rattle.reo_plan.specs.inside.Asks.{so_in, number_so, IsSameFact, IsNumbered, asked, HasAsks, IsAsks, AreAsks, AreShared}
+use Rattle.reo_plan.specs.inside.Asks.{so_in, number_so, IsSameFact, IsNumbered, HasAsks, IsAsks, AreAsks, AreShared}
 use Rattle.reo_plan.proofs.FactLemmas.{all-append}
 use Rattle.reo_plan.proofs.SlotLemmas.{kept_value, get-extended, extends_same, extends_on}
 
