@@ -74,8 +74,8 @@ CASES = [
     ("merger of twelve", "plan", merger(12)),
     ("20,000 choices of a router", "run --plain", router(20_000)),
     ("12,000 choices of a merger of twelve", "run --plain", puts_into(merger(12), 12, 12_000)),
-    ("1,000 choices among 4,096 firings", "run --plain", puts_out(fan(12), 1_000)),
-    ("1,000 choices by data among 4,096 firings", "run --plain", filters(12, 1_000)),
+    ("10,000 choices among 4,096 firings", "run --plain", puts_out(fan(12), 10_000)),
+    ("5,000 choices by data among 4,096 firings", "run --plain", filters(12, 5_000)),
     ("2,000 data through 64 Syncs", "run --plain", syncs(64, 2_000)),
 ]
 
