@@ -1,5 +1,5 @@
 -- A region that hands on what one party puts to another party that gets.
-use Rattle.std.specs.Prelude.{◌≡◌, ℕ, [], ◌∷◌, Option, Some, None}
+use Rattle.std.specs.Prelude.{◌≡◌, ℕ, [], ◌∷◌, Some}
 use Rattle.reo_value.specs.declared.value.Value.{Value}
 use Rattle.reo_value.specs.Code.{code_of, IsValue}
 use Rattle.reo_value.specs.declared.op.Way.TheVariants.{Put, Get}
@@ -9,7 +9,6 @@ use Rattle.reo_coupling.specs.Parts.{NothingDue}
 use Rattle.reo_coupling.specs.PortParts.{OwesNothing}
 use Rattle.reo_table.specs.Shared.{WordsState, SeatState, RootState}
 use Rattle.reo_port.specs.Party.{PartyValue, IsPartyOf}
-use Rattle.reo_test_ports.specs.declared.pipe.Row.{Row}
 
 -- one region and no cell; party 0 puts at port 0, and party 1 gets at port 1
 abbrev pub pipe : Fabric
@@ -45,11 +44,6 @@ pub record OwesAnswers (words : WordsState) (seat : SeatState) (code number : �
   pub gots : seat.view.ports.gots_due ≡ (1, value) ∷ []
   pub answers : seat.view.ports.answers_due ≡ (0, number) ∷ (1, number) ∷ []
   pub last : seat.view.ports.last ≡ number
-
--- what came of a round: stores are due, or the region can hand on still
-abbrev pub Served : WordsState → SeatState → Option Row → Type 0
-Served words seat None = CanServe words seat
-Served words seat (Some row) = OwesAnswers words seat row.offer row.number
 
 -- the words of a pipe with the seats that their root gave away
 pub record IsOpen (words : WordsState) (root : RootState) (seat : SeatState) (putter getter : PartyValue) : Type 0 where

@@ -1,7 +1,7 @@
 //! A put and a get through one region, step by step and on three threads.
-ghost use Rattle.std.specs.Prelude.{◌≡◌, ◌≤◌, IfOk};
+ghost use Rattle.std.specs.Prelude.{◌≡◌, ◌≤◌, IfOk, IfSome, IfNone};
 ghost use Rattle.reo_port.specs.Party.{IsPartyOf};
-ghost use Rattle.reo_test_ports.specs.Pipe.{pipe, piped, CanServe, IsOpen, OwesAnswers, Served};
+ghost use Rattle.reo_test_ports.specs.Pipe.{pipe, piped, CanServe, IsOpen, OwesAnswers};
 
 use reo_fabric::{Entry, Fabric, PortSpec};
 use reo_port::{Collected, Party};
@@ -64,7 +64,8 @@ fn commit_one(
     seat: &mut RegionSeat,
 ) -> Result<Option<Row>, AllocError>
     requires { CanServe words.now seat.old }
-    ensures { IfOk result (λ row. Served words.now seat.new row) }
+    ensures owes { IfOk result (λ row. IfSome row (λ made. OwesAnswers words.now seat.new made.offer made.number)) }
+    ensures idle { IfOk result (λ row. IfNone row (CanServe words.now seat.new)) }
 {
     let round = seat.begin(words);
     let clock = seat.clock(words);
