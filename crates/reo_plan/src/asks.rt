@@ -227,12 +227,47 @@ fn asks_of(
     })
 }
 
+/// Numbers what a row asks of presence.
+fn number_presence(
+    slots: &mut Items<Giver>,
+    facts: &mut Items<Fact>,
+    row: &Row,
+) -> Result<(), AllocError>
+    requires { AreOrdered slots.old }
+    ensures { OnOk result (AreOrdered slots.new) }
+{
+    let own = row.slots.as_slice();
+    let asked = row.facts.as_slice();
+    for fact in asked {
+        if is_presence(own, fact) {
+            let _number = shared_number(own, slots, facts, *fact)?;
+        }
+    }
+    Ok(())
+}
+
+/// Numbers what the rows ask of presence, before all else: so while there is room for it no guard is asked before it.
+fn presence_of_all(
+    slots: &mut Items<Giver>,
+    facts: &mut Items<Fact>,
+    rows: &[Row],
+) -> Result<(), AllocError>
+    requires { AreOrdered slots.old }
+    ensures { OnOk result (AreOrdered slots.new) }
+{
+    for row in rows {
+        number_presence(slots, facts, row)?;
+    }
+    Ok(())
+}
+
 /// What the rows of a region ask.
 fn shared_by(alloc: Global, rows: &[Row]) -> Result<Shared, AllocError>
     ensures { IfOk result (λ shared. (c : RawCircuit) → AreAsks c shared.slots shared.facts rows.now shared.asks) }
 {
     let mut slots = Items::new(alloc);
     let mut facts = Items::new(alloc);
+    presence_of_all(&mut slots, &mut facts, rows)?;
     let mut asks = Items::new(alloc);
     for row in rows {
         let own = asks_of(alloc, &mut slots, &mut facts, row)?;
