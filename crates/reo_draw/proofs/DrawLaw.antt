@@ -52,7 +52,7 @@ module _ (source_before source_after : SourceSeen) (before after : Sinks) (docum
       → other_sink target after ≡ other_sink target before → IsDrawn document before after status
   by_drawing _ _ _ (Read bytes target told own read short held has) written quiet =
       by_bytes target told own (subst (λ (b : List ℕ). ForBytes b target told own) (read p.input p.told).0 has) written quiet
-  by_drawing _ _ _ (ReadFailed rose) written quiet = absurd (p.source_held rose)
+  by_drawing _ _ _ (ReadFailed rose lost) written quiet = absurd (p.source_held rose)
   by_drawing _ _ _ (TooLong more gone) written quiet = absurd (omega (arith, more p.input p.told, p.short))
   by_drawing _ _ _ (ReadWanting held gone) written quiet = ⊎_elim (λ w. absurd (p.memory w.0)) (λ w. absurd (p.sinks_held ToErr w.1.rose)) written
 

@@ -51,7 +51,7 @@ pub data ForDrawing (before after : SourceSeen) : Target → List ℕ → Status
   Read : (bytes : List ℕ) (target : Target) (text : List ℕ) (status : Status) → IsReadWhole before.left after.left bytes → length bytes ≤ most_bytes → after.faults ≡ before.faults
       → ForBytes bytes target text status → ForDrawing before after target text status
   -- a read failed
-  ReadFailed : Rose before.faults after.faults → ForDrawing before after ToErr read_failed_text ReadFault
+  ReadFailed : Rose before.faults after.faults → LosesAtMost before.left after.left most_bytes → ForDrawing before after ToErr read_failed_text ReadFault
   -- byte 1,048,577 was taken
   TooLong : HasMoreThan before.left most_bytes → LosesFirst before.left after.left (most_bytes + 1) → ForDrawing before after ToErr too_long_text ReadFault
   -- memory was wanting while it was read

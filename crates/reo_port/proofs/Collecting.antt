@@ -15,7 +15,7 @@ use Rattle.reo_coupling.specs.PortParts.{IsOwned, CallStands}
 use Rattle.reo_coupling.specs.declared.view.PartyView.{PartyView}
 use Rattle.reo_coupling.specs.declared.view.PortView.{PortView}
 use Rattle.reo_coupling.specs.Moment.{Setting, state_place, data_place}
-use Rattle.reo_coupling.specs.PortViews.{port_of, seen_in, after_see_state, after_see_got, after_clear, party_after_load}
+use Rattle.reo_coupling.specs.PortViews.{port_of, answered_call, seen_in, after_call, after_see_state, after_see_got, after_clear, party_after_load}
 use Rattle.reo_coupling.proofs.OneCall.{seen_high}
 use Rattle.reo_coupling.proofs.PartyFrames.{port_here, port_else}
 use Rattle.reo_coupling.proofs.PartySteps.{call_is}
@@ -84,10 +84,11 @@ module _ (setting : Setting) (v0 v1 v2 v3 : PartyView) (port s word : ℕ) (valu
       let is : value ≡ found = codes_differ value found answered.is_value real (sym answered.code ∙ sym code) in
       record {
         calls = calls_with found is cleared;
-        idle = ap (λ (v : PartyView). (port_of v port).call) cleared ∙ ap (λ (k : PortView). k.call) (port_here (record v2 { calls = v2.calls ++ Rattle.reo_coupling.specs.PortViews.answered_call port (port_of v2 port).seen (port_of v2 port).datum }) port _);
+        at = ap (λ (v : PartyView). port_of v port) cleared
+            ∙ (port_here (record v2 { calls = v2.calls ++ answered_call port (port_of v2 port).seen (port_of v2 port).datum }) port _ ∙ (ap after_call at_two ∙ ap after_call at_one));
         others = λ other ne.
             ap (λ (v : PartyView). port_of v other) cleared
-            ∙ (port_else (record v2 { calls = v2.calls ++ Rattle.reo_coupling.specs.PortViews.answered_call port (port_of v2 port).seen (port_of v2 port).datum }) port other _ ne ∙ else_two other ne);
+            ∙ (port_else (record v2 { calls = v2.calls ++ answered_call port (port_of v2 port).seen (port_of v2 port).datum }) port other _ ne ∙ else_two other ne);
         loads =
             ap (λ (v : PartyView). v.loads) cleared
             ∙ (ap (λ (v : PartyView). v.loads) looked
@@ -140,7 +141,7 @@ module _ (words : WordsState) (told : PartyValue) (seat0 seat1 seat2 seat3 : Par
   noted_none calls noted some =
       let there = way_there (way_at told port) port (port_of told.view port).call some in
       let way_is : get_or ways port None ≡ Some there.0 = ap (λ (p : PartyValue). way_at p port) is ∙ there.1 in
-      noted_after ways seat0.view seat3.view calls port None None noted (subst (λ n. port < n) (sym noted.same) (has_place ways port there.0 way_is)) answer.idle (λ other ne. ap (λ (k : PortView). k.call) (answer.others other ne)) (ap (λ w. standing w port None) (sym way_is))
+      noted_after ways seat0.view seat3.view calls port None None noted (subst (λ n. port < n) (sym noted.same) (has_place ways port there.0 way_is)) (ap (λ (k : PortView). k.call) answer.at) (λ other ne. ap (λ (k : PortView). k.call) (answer.others other ne)) (ap (λ w. standing w port None) (sym way_is))
       (λ offer way called empty. no_offer offer called)
     where
       no_offer : (offer : Offer) → ◌≡◌ {A = Option Offer} None (Some offer) → ⊥

@@ -13,7 +13,7 @@ use Rattle.reo_fabric.specs.declared.fabric.PortSpec.{PortSpec}
 use Rattle.reo_coupling.specs.declared.view.Offer.{Offer}
 use Rattle.reo_coupling.specs.declared.view.PartyView.{PartyView}
 use Rattle.reo_coupling.specs.Moment.{Setting, state_place, data_place}
-use Rattle.reo_coupling.specs.PortViews.{port_of, after_see_state}
+use Rattle.reo_coupling.specs.PortViews.{port_of, after_see_state, after_call}
 use Rattle.reo_coupling.specs.Ports.{IsAfterItsPast, IsGiven}
 use Rattle.reo_coupling.specs.PortParts.{CallStands}
 use Rattle.reo_table.specs.History.{IsHistory}
@@ -89,7 +89,8 @@ pub record AreNoted (ways : List (Option Way)) (view : PartyView) (calls : List 
 -- made the offer, and a put's value is what was offered.
 pub record IsAnswer (setting : Setting) (old new : PartyView) (port : ℕ) (value : Value) (number : ℕ) : Type 0 where
   pub calls : new.calls ≡ old.calls ++ record { port = port; value = value; number = number } ∷ []
-  pub idle : (port_of new port).call ≡ None
+  -- the port is idle again, and its offer is one of the past
+  pub at : port_of new port ≡ after_call (port_of old port)
   pub others : (other : ℕ) → (other ≡ port → ⊥) → port_of new other ≡ port_of old other
   -- the words that were read
   pub loads : new.loads ≡ (old.loads ++ (state_place setting.fabric port, 3 + number) ∷ []) ++ (data_place setting.fabric port, code_of value) ∷ []

@@ -116,7 +116,7 @@ module _ (words : List (Bor (List ℕ))) (source_before source_after : SourceSee
         (subst (λ (c : Command). ForBytes c p.input target told own) (one_command other command asks p.asked_for)
         (subst (λ (b : List ℕ). ForBytes other b target told own) (read p.input p.told).0 has)) written quiet
     by_call _ _ _ (NoCommand none unread) written quiet = absurd (no_command command p.asked_for none)
-    by_call _ _ _ (ReadFailed other asks rose) written quiet = absurd (p.source_held rose)
+    by_call _ _ _ (ReadFailed other asks rose lost) written quiet = absurd (p.source_held rose)
     by_call _ _ _ (TooLong other asks more gone) written quiet = absurd (omega (arith, more p.input p.told, p.short))
     by_call _ _ _ (ReadWanting other asks held gone) written quiet = ⊎_elim (λ w. absurd (p.memory w.0)) (λ w. absurd (p.sinks_held ToErr w.1.rose)) written
 
@@ -129,7 +129,7 @@ module _ (words : List (Bor (List ℕ))) (source_before source_after : SourceSee
       → IsWritten (sink_at target before) (sink_at target after) told own status → (status ≡ Usage) ⊎ (status ≡ WriteFault)
   usage_by _ _ _ none (Read command bytes target told own asks read short held has) written = absurd (no_command command asks none)
   usage_by _ _ _ none (NoCommand also unread) written = ⊎_elim (λ w. inl w.0) (λ w. inr w.0) written
-  usage_by _ _ _ none (ReadFailed command asks rose) written = absurd (no_command command asks none)
+  usage_by _ _ _ none (ReadFailed command asks rose lost) written = absurd (no_command command asks none)
   usage_by _ _ _ none (TooLong command asks more gone) written = absurd (no_command command asks none)
   usage_by _ _ _ none (ReadWanting command asks held gone) written = absurd (no_command command asks none)
 
@@ -159,7 +159,7 @@ module _ (words : List (Bor (List ℕ))) (source_before source_after : SourceSee
         (subst (λ (c : Command). ForBytes c r.input target told own) (one_command other r.command asks r.asked_for)
         (subst (λ (b : List ℕ). ForBytes other b target told own) (read r.input r.told).0 has)) written
     refusal_of_call _ _ _ (NoCommand none unread) written = absurd (no_command r.command r.asked_for none)
-    refusal_of_call _ _ _ (ReadFailed other asks rose) written = absurd (r.source_held rose)
+    refusal_of_call _ _ _ (ReadFailed other asks rose lost) written = absurd (r.source_held rose)
     refusal_of_call _ _ _ (TooLong other asks more gone) written = absurd (omega (arith, more r.input r.told, r.short))
     refusal_of_call _ _ _ (ReadWanting other asks held gone) written = memory_above Refused status before.err after.err out_of_memory_text written
 
@@ -171,7 +171,7 @@ module _ (words : List (Bor (List ℕ))) (source_before source_after : SourceSee
       → IsWritten (sink_at target before) (sink_at target after) told own status → IsOrAbove ReadFault status
   length_by _ _ _ o (Read other bytes target told own asks read short held has) written = let same = (read o.input o.told).0 in absurd (omega (arith, o.long, short, ap length same))
   length_by _ _ _ o (NoCommand none unread) written = absurd (no_command o.command o.asked_for none)
-  length_by _ _ _ o (ReadFailed other asks rose) written = or_above ReadFault ReadFault status before.err after.err _ refl written
+  length_by _ _ _ o (ReadFailed other asks rose lost) written = or_above ReadFault ReadFault status before.err after.err _ refl written
   length_by _ _ _ o (TooLong other asks more gone) written = or_above ReadFault ReadFault status before.err after.err _ refl written
   length_by _ _ _ o (ReadWanting other asks held gone) written = memory_above ReadFault status before.err after.err out_of_memory_text written
 

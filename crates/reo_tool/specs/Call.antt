@@ -168,8 +168,8 @@ pub data ForCall (words : List (Bor (List ℕ))) (before after : SourceSeen) : T
       → length bytes ≤ most_bytes → after.faults ≡ before.faults → ForBytes command bytes target text status → ForCall words before after target text status
   -- none was, and nothing was read
   NoCommand : asked words ≡ None → after ≡ before → ForCall words before after ToErr usage_text Usage
-  -- a read failed
-  ReadFailed : (command : Command) → asked words ≡ Some command → Rose before.faults after.faults → ForCall words before after ToErr read_failed_text ReadFault
+  -- a read failed, and no more bytes were taken than a document has
+  ReadFailed : (command : Command) → asked words ≡ Some command → Rose before.faults after.faults → LosesAtMost before.left after.left most_bytes → ForCall words before after ToErr read_failed_text ReadFault
   -- byte 1,048,577 was taken
   TooLong : (command : Command) → asked words ≡ Some command → HasMoreThan before.left most_bytes → LosesFirst before.left after.left (most_bytes + 1) → ForCall words before after ToErr too_long_text ReadFault
   -- memory was wanting while the source was read: no read failed, and no more bytes were taken than a document has

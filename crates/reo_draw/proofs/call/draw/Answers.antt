@@ -22,7 +22,7 @@ pub returns-in-Err-Fault : goal.returns-in-Err-Fault
 returns-in-Err-Fault g c =
     writes_err (ForDrawing (source_seen g.S.Source c.args.source.now) (source_seen g.S.Source c.read_all.new.source)) (sinks_seen g.K.Sink g.E.Sink c.args.out.now c.args.err.now)
     (sinks_seen g.K.Sink g.E.Sink c.args.out.now c.tell.new.sink) read_failed_text ReadFault c.tell.result
-    (ReadFailed (c.in-Err-Fault.ensures.fault (ap Err c.in-Err-Fault.field-0-is))) c.tell.ensures.told refl
+    (ReadFailed (c.in-Err-Fault.ensures.fault (ap Err c.in-Err-Fault.field-0-is)) (c.in-Err-Fault.ensures.untaken (λ is. cc))) c.tell.ensures.told refl
 
 pub returns-in-Err-TooLong : goal.returns-in-Err-TooLong
 returns-in-Err-TooLong g c =

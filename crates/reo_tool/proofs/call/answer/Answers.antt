@@ -27,7 +27,7 @@ pub returns-in-Err-Fault-clause-cause : goal.returns-in-Err-Fault-clause-cause
 returns-in-Err-Fault-clause-cause g c =
     writes_err (ForCall c.args.words.now (source_seen g.S.Source c.args.source.now) (source_seen g.S.Source c.read_all.new.source)) (sinks_seen g.K.Sink g.E.Sink c.args.out.now c.args.err.now)
     (sinks_seen g.K.Sink g.E.Sink c.args.out.now c.tell-in-Err-Fault.new.sink) read_failed_text ReadFault c.tell-in-Err-Fault.result
-    (ReadFailed c.in-Some.command (sym c.command_of.ensures.command ∙ c.in-Some.is) (c.in-Err-Fault.ensures.fault (ap Err c.in-Err-Fault.field-0-is))) c.tell-in-Err-Fault.ensures.told refl
+    (ReadFailed c.in-Some.command (sym c.command_of.ensures.command ∙ c.in-Some.is) (c.in-Err-Fault.ensures.fault (ap Err c.in-Err-Fault.field-0-is)) (c.in-Err-Fault.ensures.untaken (λ is. cc))) c.tell-in-Err-Fault.ensures.told refl
 
 pub returns-in-Err-TooLong-clause-cause : goal.returns-in-Err-TooLong-clause-cause
 returns-in-Err-TooLong-clause-cause g c =
