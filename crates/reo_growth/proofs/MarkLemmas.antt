@@ -1,8 +1,8 @@
 -- The marks of a list that an automaton enters.
-use Rattle.std.proofs.Common.{◌≡◌, ℕ, ◌+◌, ◌<◌, ◌⊎◌, inl, inr, List, [], ◌∷◌, length, take, get_or, Bool, true, false, cond, ◌||◌, refl, sym, ◌∙◌, ap, arith, zero-add}
+use Rattle.std.proofs.Common.{◌≡◌, ℕ, ◌+◌, ◌<◌, ◌⊎◌, inl, inr, List, [], ◌∷◌, length, take, get_or, Bool, true, false, cond, not, ◌&&◌, ◌||◌, refl, sym, ◌∙◌, ap, arith, zero-add}
 use Rattle.std.specs.Prelude.{nat_eq}
 use Rattle.std.specs.List.{list_any}
-use Rattle.std.proofs.lemmas.Bool.{cases_Bool}
+use Rattle.std.proofs.lemmas.Bool.{cases_Bool, and_parts, and_from, false≢true}
 use Rattle.std.specs.Option.{option_map_or}
 use Rattle.std.proofs.lemmas.Option.{slice_get-get_or}
 use Rattle.std.proofs.lemmas.List.{same_lists, take_more}
@@ -15,8 +15,8 @@ use Rattle.reo_growth.specs.declared.web.Web.{Web}
 use Rattle.reo_growth.specs.Lists.{has, Among}
 use Rattle.reo_growth.specs.Web.{names_of, links_of, IsWeb}
 use Rattle.reo_growth.specs.Growth.{Vertex, fired, known, is_listed, with_link}
-use Rattle.reo_growth.specs.Marks.{Changes, AreBelow, met, opened, automaton_mark, name_mark, automaton_marks, name_marks, holders_at, is_held, AreHolders}
-use Rattle.reo_growth.proofs.ListLemmas.{same_tests, any_from, any_gives, has_among, among_has, among_at}
+use Rattle.reo_growth.specs.Marks.{Changes, AreBelow, is_fires, is_newly_held, met, opened, automaton_mark, name_mark, automaton_marks, name_marks, holders_at, AreHolders}
+use Rattle.reo_growth.proofs.ListLemmas.{any_from, any_gives, has_among, among_has, among_at}
 
 any_or : {A : Type 0} (p q : A → Bool) (xs : List A) → list_any (λ x. p x || q x) xs ≡ (list_any p xs || list_any q xs)
 any_or p q [] = refl
@@ -38,6 +38,20 @@ name_step false true false k = refl
 name_step false false true true = refl
 name_step false false true false = refl
 name_step false false false k = refl
+
+-- what the mark of a name says
+fires_said : (f k : Bool) → is_fires (cond f Fires (cond k Silent Unknown)) ≡ f
+fires_said true k = refl
+fires_said false true = refl
+fires_said false false = refl
+
+-- two tests that differ at most where a third holds
+same_beside : (a b c : Bool) → (a ≡ true → (b ≡ true) ⊎ (c ≡ true)) → (b ≡ true → a ≡ true) → (a || c) ≡ (b || c)
+same_beside true true c there back = refl
+same_beside true false true there back = refl
+same_beside true false false there back = elim (there refl) [ inl e ↦ absurd (false≢true e) | inr e ↦ absurd (false≢true e) ]
+same_beside false true c there back = absurd (false≢true (back refl))
+same_beside false false c there back = refl
 
 -- how the mark of another automaton changes
 automaton_step : (l o h : Bool) → cond l Listed (cond (h || o) Open Absent) ≡ cond h (opened (cond l Listed (cond o Open Absent))) (cond l Listed (cond o Open Absent))
@@ -74,29 +88,51 @@ module _ (w : Web) (v : Vertex) (x : ℕ) (link : List ℕ) where
       old_at k d within = ap (λ xs. get_or xs k d) is ∙ get_or-map-range_with_len (name_mark w v) 0 w.names k k d within (zero-add k)
 
   module _ (is_web : IsWeb w) (holders : List (List ℕ)) (right : AreHolders w holders) (its : Among link (links_of w x)) where
-    held : (y : ℕ) → is_held holders link y ≡ list_any (has link) (names_of w y)
-    held y = same_tests (is_held holders link y) (list_any (has link) (names_of w y))
-        (λ h. let f = any_gives (λ name. has (holders_at holders name) y) link h in
-        let in_link = among_has link f.0 f.1 in
-        let below = is_web.below x f.0 (is_web.own x link its f.0 in_link) in
-        any_from (has link) (names_of w y) f.0 (has_among (names_of w y) f.0 (sym (right.have y f.0 below) ∙ f.2)) in_link)
+    said : (marks : List Mark) → marks ≡ name_marks w v → (name : ℕ) → name < w.names → is_fires (get_or marks name Unknown) ≡ fired v name
+    unfolding name_mark
+    said marks are name within =
+        ap (λ xs. is_fires (get_or xs name Unknown)) are ∙ ap is_fires (get_or-map-range_with_len (name_mark w v) 0 w.names name name Unknown within (zero-add name))
+        ∙ fires_said (fired v name) (known w v name)
+
+    -- a name of this automaton fires then, where one fired before or some name of the link, that did not fire before, has it as a holder
+    held : (marks : List Mark) → marks ≡ name_marks w v → (y : ℕ)
+        → (list_any (has link) (names_of w y) || list_any (fired v) (names_of w y)) ≡ (is_newly_held marks holders link y || list_any (fired v) (names_of w y))
+    held marks are y = same_beside (list_any (has link) (names_of w y)) (is_newly_held marks holders link y) (list_any (fired v) (names_of w y))
         (λ h. let f = any_gives (has link) (names_of w y) h in
         let of_y = among_has (names_of w y) f.0 f.1 in
-        any_from (λ name. has (holders_at holders name) y) link f.0 (has_among link f.0 f.2) (right.have y f.0 (is_web.below y f.0 of_y) ∙ of_y))
+        let within = is_web.below y f.0 of_y in
+        by_fired f.0 f.1 f.2 of_y within (cases_Bool (fired v f.0)))
+        (λ h. let f = any_gives newly link h in
+        let in_link = among_has link f.0 f.1 in
+        let within = is_web.below x f.0 (is_web.own x link its f.0 in_link) in
+        let parts = and_parts (not (is_fires (get_or marks f.0 Unknown))) (has (holders_at holders f.0) y) f.2 in
+        any_from (has link) (names_of w y) f.0 (has_among (names_of w y) f.0 (sym (right.have y f.0 within) ∙ parts.1)) in_link)
+      where
+        newly : ℕ → Bool
+        newly name = not (is_fires (get_or marks name Unknown)) && has (holders_at holders name) y
 
-    automaton_mark_next : (y : ℕ) → nat_eq x y ≡ false → automaton_mark w (with_link v x link) y ≡ cond (is_held holders link y) (opened (automaton_mark w v y)) (automaton_mark w v y)
+        by_fired : (name : ℕ) → Among name (names_of w y) → has link name ≡ true → has (names_of w y) name ≡ true → name < w.names → (fired v name ≡ true) ⊎ (fired v name ≡ false)
+            → (is_newly_held marks holders link y ≡ true) ⊎ (list_any (fired v) (names_of w y) ≡ true)
+        by_fired name at in_link of_y within (inl before) = inr (any_from (fired v) (names_of w y) name at before)
+        by_fired name at in_link of_y within (inr new) = inl
+            (any_from newly link name (has_among link name in_link)
+            (and_from (not (is_fires (get_or marks name Unknown))) (has (holders_at holders name) y) (ap not (said marks are name within ∙ new)) (right.have y name within ∙ of_y)))
+
+    automaton_mark_next : (marks : List Mark) → marks ≡ name_marks w v → (y : ℕ) → nat_eq x y ≡ false
+        → automaton_mark w (with_link v x link) y ≡ cond (is_newly_held marks holders link y) (opened (automaton_mark w v y)) (automaton_mark w v y)
     unfolding automaton_mark fired is_listed with_link
-    automaton_mark_next y other =
+    automaton_mark_next marks are y other =
         ap (λ b. cond (b || is_listed v y) Listed (cond (list_any (λ name. has link name || fired v name) (names_of w y)) Open Absent)) other
-        ∙ ap (λ b. cond (is_listed v y) Listed (cond b Open Absent)) (any_or (has link) (fired v) (names_of w y) ∙ ap (λ b. b || list_any (fired v) (names_of w y)) (sym (held y)))
-        ∙ automaton_step (is_listed v y) (list_any (fired v) (names_of w y)) (is_held holders link y)
+        ∙ ap (λ b. cond (is_listed v y) Listed (cond b Open Absent)) (any_or (has link) (fired v) (names_of w y) ∙ held marks are y)
+        ∙ automaton_step (is_listed v y) (list_any (fired v) (names_of w y)) (is_newly_held marks holders link y)
 
     automaton_mark_here : (y : ℕ) → nat_eq x y ≡ true → automaton_mark w (with_link v x link) y ≡ Listed
     unfolding automaton_mark is_listed with_link
     automaton_mark_here y here = ap (λ b. cond (b || is_listed v y) Listed (cond (list_any (fired (with_link v x link)) (names_of w y)) Open Absent)) here
 
-    pub automata_entered : (old middle new : List Mark) → old ≡ automaton_marks w v → Changes (is_held holders link) opened old middle → Changes (nat_eq x) (λ _. Listed) middle new → new ≡ automaton_marks w (with_link v x link)
-    automata_entered old middle new is changes listed =
+    pub automata_entered : (names old middle new : List Mark) → names ≡ name_marks w v → old ≡ automaton_marks w v → Changes (is_newly_held names holders link) opened old middle
+        → Changes (nat_eq x) (λ _. Listed) middle new → new ≡ automaton_marks w (with_link v x link)
+    automata_entered names old middle new are is changes listed =
         same_lists new (automaton_marks w (with_link v x link)) (size ∙ sym (length-map-range_with_len (automaton_mark w (with_link v x link)) 0 (length w.automata))) (λ k d at.
         let within : k < length w.automata = omega (arith, size) in
         listed.1 k d (omega (arith, size_old, changes.0)) ∙ at_place k d within (cases_Bool (nat_eq x k))
@@ -112,8 +148,8 @@ module _ (w : Web) (v : Vertex) (x : ℕ) (link : List ℕ) where
         at_place k d within (inl here) = ap (λ b. cond b Listed (get_or middle k d)) here ∙ sym (automaton_mark_here k here)
         at_place k d within (inr other) =
             ap (λ b. cond b Listed (get_or middle k d)) other ∙ changes.1 k d (omega (arith, size_old))
-            ∙ ap (λ m. cond (is_held holders link k) (opened m) m) (ap (λ xs. get_or xs k d) is ∙ get_or-map-range_with_len (automaton_mark w v) 0 (length w.automata) k k d within (zero-add k))
-            ∙ sym (automaton_mark_next k other)
+            ∙ ap (λ m. cond (is_newly_held names holders link k) (opened m) m) (ap (λ xs. get_or xs k d) is ∙ get_or-map-range_with_len (automaton_mark w v) 0 (length w.automata) k k d within (zero-add k))
+            ∙ sym (automaton_mark_next names are k other)
 
 -- one change after another
 pub changes_twice : (change : Mark → Mark) → ((m : Mark) → change (change m) ≡ change m) → (p q r : ℕ → Bool) → ((k : ℕ) → r k ≡ (p k || q k)) → (old middle new : List Mark)
@@ -143,16 +179,14 @@ or_last true b = refl
 or_last false true = refl
 or_last false false = refl
 
-pub is_held_more : (holders : List (List ℕ)) (link : List ℕ) (i k name : ℕ) (holder : List ℕ) → i < length link → name ≡ get_or link i 0 → holder ≡ holders_at holders name
-    → is_held holders (take (i + 1) link) k ≡ (is_held holders (take i link) k || has holder k)
-is_held_more holders link i k name holder within is held =
-    ap (λ xs. is_held holders xs k) (take_more link i 0 within) ∙ list_any-append (λ name. has (holders_at holders name) k) (take i link) (get_or link i 0 ∷ [])
-    ∙ or_last (is_held holders (take i link) k) (has (holders_at holders (get_or link i 0)) k)
-    ∙ ap (λ xs. is_held holders (take i link) k || has xs k) (ap (holders_at holders) (sym is) ∙ sym held)
+-- so one name more of the link does
+pub any_more : (p : ℕ → Bool) (link : List ℕ) (i : ℕ) → i < length link → list_any p (take (i + 1) link) ≡ (list_any p (take i link) || p (get_or link i 0))
+any_more p link i within =
+    ap (list_any p) (take_more link i 0 within) ∙ list_any-append p (take i link) (get_or link i 0 ∷ []) ∙ or_last (list_any p (take i link)) (p (get_or link i 0))
 
 pub has_more : (xs : List ℕ) (i k : ℕ) → i < length xs → has (take (i + 1) xs) k ≡ (has (take i xs) k || nat_eq (get_or xs i 0) k)
 has_more xs i k within =
-    ap (λ ys. has ys k) (take_more xs i 0 within) ∙ list_any-append (λ x. nat_eq x k) (take i xs) (get_or xs i 0 ∷ []) ∙ or_last (has (take i xs) k) (nat_eq (get_or xs i 0) k)
+    any_more (λ x. nat_eq x k) xs i within
 
 pub met_again : (m : Mark) → met (met m) ≡ met m
 met_again Absent = refl

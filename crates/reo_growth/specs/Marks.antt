@@ -1,5 +1,5 @@
 -- Words that mirror the code of growth: what it marks of a partial firing.
-use Rattle.std.specs.Prelude.{◌≡◌, ℕ, ◌<◌, ◌≤◌, List, [], length, map, slice_index_or, Bool, true, false, not, ◌||◌, if◌then◌else◌, All}
+use Rattle.std.specs.Prelude.{◌≡◌, ℕ, ◌<◌, ◌≤◌, List, [], length, map, slice_index_or, Bool, true, false, not, ◌&&◌, ◌||◌, if◌then◌else◌, All}
 use Rattle.std.specs.List.{list_any, range_with_len}
 use Rattle.reo_growth.specs.declared.marks.Mark.{Mark}
 use Rattle.reo_growth.specs.declared.marks.Mark.TheVariants.{Absent, Open, Listed, Unknown, Silent, Fires}
@@ -70,9 +70,9 @@ name_marks w v = map (name_mark w v) (range_with_len 0 w.names)
 abbrev pub holders_at : List (List ℕ) → ℕ → List ℕ
 holders_at holders name = slice_index_or holders name []
 
--- some automaton's name in the link has this automaton as a holder
-abbrev pub is_held : List (List ℕ) → List ℕ → ℕ → Bool
-is_held holders link x = list_any (λ name. has (holders_at holders name) x) link
+-- some name of the link that did not fire before has this automaton as a holder
+abbrev pub is_newly_held : List Mark → List (List ℕ) → List ℕ → ℕ → Bool
+is_newly_held marks holders link x = list_any (λ name. not (is_fires (slice_index_or marks name Unknown)) && has (holders_at holders name) x) link
 
 -- the table has for each name the automata that have it
 pub record AreHolders (w : Web) (holders : List (List ℕ)) : Type 0 where

@@ -3,11 +3,11 @@ ghost use Rattle.std.specs.Prelude.{◌≡◌, ℕ, ◌+◌, ◌<◌, ◌≤◌,
 ghost use Rattle.reo_growth.specs.Lists.{Among};
 ghost use Rattle.reo_growth.specs.Web.{links_of};
 ghost use Rattle.reo_growth.specs.Growth.{Vertex, with_link};
-ghost use Rattle.reo_growth.specs.Marks.{AreBelow, Changes, IsBefore, NoneOpenBefore, is_held, opened};
+ghost use Rattle.reo_growth.specs.Marks.{AreBelow, Changes, IsBefore, NoneOpenBefore, is_newly_held, opened};
 ghost use Rattle.reo_growth.specs.Trail.{Undoes};
 ghost use Rattle.reo_growth.specs.Ground.{AreLong, AreMarksOf, IsGround};
 
-use crate::marks::{Mark, mark_fired, mark_known, mark_open};
+use crate::marks::{Mark, fires, mark_fired, mark_known, open_holders};
 use crate::trail::{Marking, Trail};
 use crate::web::Web;
 use sqlite_items::Items;
@@ -21,21 +21,25 @@ pub struct Ground {
     pub partners: Items<Items<u32>>,
 }
 
-/// Marks the automata that have a name of a link, and tells the least of them and a number.
+/// Marks the automata that have a name of a link that did not fire before, and tells the least of them and a number.
 fn mark_all_open(
     automata: &mut Trail,
+    names: &[Mark],
     holders: &[Items<u32>],
     link: &[u32],
     mut least: usize,
 ) -> Result<usize, AllocError>
     requires below { All (AreBelow (length automata.old.marks.items)) holders.now }
     requires named { AreBelow (length holders.now) link.now }
-    ensures opened { OnOk result (Changes (is_held holders.now link.now) opened automata.old.marks.items automata.new.marks.items) }
+    requires known { AreBelow (length names.now) link.now }
+    ensures opened { OnOk result (Changes (is_newly_held names.now holders.now link.now) opened automata.old.marks.items automata.new.marks.items) }
     ensures undo { OnOk result (Undoes automata.old automata.new) }
-    ensures least { IfOk result (IsBefore (is_held holders.now link.now) least) }
+    ensures least { IfOk result (IsBefore (is_newly_held names.now holders.now link.now) least) }
 {
     for name in link {
-        least = mark_open(automata, holders[*name as usize].as_slice(), least)?;
+        let name = *name as usize;
+        let already = fires(names[name]);
+        least = open_holders(automata, already, holders[name].as_slice(), least)?;
     }
     Ok(least)
 }
@@ -60,14 +64,15 @@ pub fn enter(
     ensures names { OnOk result (Undoes marking.old.names marking.new.names) }
 {
     let automaton = &ground.web.automata.as_slice()[x];
-    mark_fired(&mut marking.names, link)?;
-    mark_known(&mut marking.names, automaton.names.as_slice())?;
     let least = mark_all_open(
         &mut marking.automata,
+        marking.names.marks.as_slice(),
         ground.holders.as_slice(),
         link,
         x + 1,
     )?;
+    mark_fired(&mut marking.names, link)?;
+    mark_known(&mut marking.names, automaton.names.as_slice())?;
     marking.automata.change(x as u32, Mark::Listed)?;
     Ok(least)
 }

@@ -1,5 +1,5 @@
 //! What growth marks of a partial firing, so that no list of automata is searched.
-ghost use Rattle.std.specs.Prelude.{◌≡◌, ℕ, [], length, All, position, slice_index_or, nat_eq, not, ◌<◌, ◌≤◌, IfOk, OnOk};
+ghost use Rattle.std.specs.Prelude.{◌≡◌, ℕ, [], length, All, position, slice_index_or, nat_eq, not, ◌&&◌, ◌<◌, ◌≤◌, IfOk, OnOk};
 ghost use Rattle.std.specs.List.{list_all};
 ghost use Rattle.reo_growth.specs.Lists.{has};
 ghost use Rattle.reo_growth.specs.Marks.{AreBelow, Changes, IsBefore, NoneOpenBefore, allows, is_fires, is_free, is_open_mark, met, opened};
@@ -163,11 +163,7 @@ pub fn mark_known(names: &mut Trail, its: &[u32]) -> Result<(), AllocError>
 }
 
 /// Marks the automata of a name that fires from now on, and tells the least of them and a number.
-pub fn mark_open(
-    automata: &mut Trail,
-    holders: &[u32],
-    mut least: usize,
-) -> Result<usize, AllocError>
+fn mark_open(automata: &mut Trail, holders: &[u32], mut least: usize) -> Result<usize, AllocError>
     requires { AreBelow (length automata.old.marks.items) holders.now }
     ensures opened { OnOk result (Changes (has holders.now) opened automata.old.marks.items automata.new.marks.items) }
     ensures undo { OnOk result (Undoes automata.old automata.new) }
@@ -178,6 +174,25 @@ pub fn mark_open(
         least = least.min(*holder as usize);
     }
     Ok(least)
+}
+
+/// The same for a name that may have fired already: then all its automata are open or listed.
+pub fn open_holders(
+    automata: &mut Trail,
+    already: bool,
+    holders: &[u32],
+    least: usize,
+) -> Result<usize, AllocError>
+    requires { AreBelow (length automata.old.marks.items) holders.now }
+    ensures opened { OnOk result (Changes (λ x. not already && has holders.now x) opened automata.old.marks.items automata.new.marks.items) }
+    ensures undo { OnOk result (Undoes automata.old automata.new) }
+    ensures least { IfOk result (IsBefore (λ x. not already && has holders.now x) least) }
+{
+    if already {
+        Ok(least)
+    } else {
+        mark_open(automata, holders, least)
+    }
 }
 
 /// Whether none of these names fires, nor stands in the link.

@@ -1,7 +1,7 @@
 use Rattle.std.proofs.Common.{◌≡◌, length, subst, sym, ap, ◌∙◌}
 use Rattle.reo_growth.specs.declared.web.Automaton.{Automaton}
 use Rattle.reo_growth.specs.Lists.{has}
-use Rattle.reo_growth.specs.Marks.{AreBelow, Changes, met, opened, is_held}
+use Rattle.reo_growth.specs.Marks.{AreBelow, Changes, met, opened, is_newly_held}
 use Rattle.reo_growth.proofs.MarkLemmas.{names_at, own_below, link_below, names_entered, automata_entered}
 use Rattle.reo_growth.proofs.TrailLemmas.{more_changed}
 use Rattle.reo_growth.proofs.ground.enter.Goals as goal
@@ -13,9 +13,9 @@ mark_fired-requires c =
 pub mark_known-requires : goal.mark_known-requires
 mark_known-requires c =
     let w = c.args.ground.now.web in
-    let names = names_at w c.args.x c.as_slice.result.now c.index-as_slice-x.result c.requires.within c.as_slice.ensures ∙ sym (c.as_slice-2.ensures ∙ ap (λ (a : Automaton). a.names) c.index-as_slice-x.is) in
+    let names = names_at w c.args.x c.as_slice.result.now c.index-as_slice-x.result c.requires.within c.as_slice.ensures ∙ sym (c.as_slice-4.ensures ∙ ap (λ (a : Automaton). a.names) c.index-as_slice-x.is) in
     let long : length c.mark_fired.new.names.marks.items ≡ w.names = c.in_ok-mark_fired.ensures.changed.0 ∙ c.requires.long.names in
-    subst (λ n. AreBelow n c.as_slice-2.result.now) (sym long) (subst (AreBelow w.names) names (own_below w c.requires.ground.is_web c.args.x))
+    subst (λ n. AreBelow n c.as_slice-4.result.now) (sym long) (subst (AreBelow w.names) names (own_below w c.requires.ground.is_web c.args.x))
 
 pub mark_all_open-requires-clause-named : goal.mark_all_open-requires-clause-named
 mark_all_open-requires-clause-named c =
@@ -23,16 +23,22 @@ mark_all_open-requires-clause-named c =
     let long : length c.as_slice-3.result.now ≡ w.names = ap length c.as_slice-3.ensures ∙ c.requires.ground.held.long in
     subst (λ n. AreBelow n c.args.link.now) (sym long) (link_below w c.requires.ground.is_web c.args.x c.args.link.now c.requires.its)
 
+pub mark_all_open-requires-clause-known : goal.mark_all_open-requires-clause-known
+mark_all_open-requires-clause-known c =
+    let w = c.args.ground.now.web in
+    let long : length c.as_slice-2.result.now ≡ w.names = ap length c.as_slice-2.ensures.value ∙ c.requires.long.names in
+    subst (λ n. AreBelow n c.args.link.now) (sym long) (link_below w c.requires.ground.is_web c.args.x c.args.link.now c.requires.its)
+
 pub returns-clause-entered : goal.returns-clause-entered
 returns-clause-entered c = λ v are.
     let w = c.args.ground.now.web in
     let x = c.args.x in
     let link = c.args.link.now in
-    let names = names_at w x c.as_slice.result.now c.index-as_slice-x.result c.requires.within c.as_slice.ensures ∙ sym (c.as_slice-2.ensures ∙ ap (λ (a : Automaton). a.names) c.index-as_slice-x.is) in
+    let names = names_at w x c.as_slice.result.now c.index-as_slice-x.result c.requires.within c.as_slice.ensures ∙ sym (c.as_slice-4.ensures ∙ ap (λ (a : Automaton). a.names) c.index-as_slice-x.is) in
     record {
       automata = automata_entered w v x link c.requires.ground.is_web c.args.ground.now.holders c.requires.ground.held c.requires.its
-          c.args.marking.now.automata.marks.items c.mark_all_open.new.automata.marks.items c.change.new.self.marks.items are.automata
-          (subst (λ xs. Changes (is_held xs link) opened c.args.marking.now.automata.marks.items c.mark_all_open.new.automata.marks.items) c.as_slice-3.ensures c.in_ok-least.ensures.opened)
+          c.as_slice-2.result.now c.args.marking.now.automata.marks.items c.mark_all_open.new.automata.marks.items c.change.new.self.marks.items (c.as_slice-2.ensures.value ∙ are.names) are.automata
+          (subst (λ xs. Changes (is_newly_held c.as_slice-2.result.now xs link) opened c.args.marking.now.automata.marks.items c.mark_all_open.new.automata.marks.items) c.as_slice-3.ensures c.in_ok-least.ensures.opened)
           c.in_ok-change.ensures.changed;
       names = names_entered w v x link c.args.marking.now.names.marks.items c.mark_fired.new.names.marks.items c.mark_known.new.names.marks.items are.names
           c.in_ok-mark_fired.ensures.changed
