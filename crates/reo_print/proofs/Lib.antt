@@ -1,3 +1,17 @@
 pub mod NameLemmas
 pub mod TextLemmas
 pub mod NumberLemmas
+pub mod TokenLemmas
+pub mod LineCutLemmas
+pub mod PlainLemmas
+pub mod TreeLemmas
+pub mod WriteLemmas
+pub mod TextPlaceLemmas
+pub mod GuardWriteLemmas
+pub mod FunctionWriteLemmas
+pub mod SourceLemmas
+pub mod LineWriteLemmas
+pub mod TextLinesLemmas
+pub mod ScriptLemmas
+pub mod DocumentAgainLemmas
+pub mod SpelledAgainLemmas

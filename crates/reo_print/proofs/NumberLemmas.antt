@@ -17,11 +17,11 @@ use Rattle.reo_print.proofs.NameLemmas.{it_is, run_again, front}
 use Rattle.reo_print.proofs.TextLemmas.{not_so}
 
 -- what the digits of a number are
-record AreDigits (n : ℕ) (digits : List ℕ) : Type 0 where
-  first : ℕ
-  more : List ℕ
-  is : digits ≡ first ∷ more
-  all : list_all is_digit digits ≡ true
+pub record AreDigits (n : ℕ) (digits : List ℕ) : Type 0 where
+  pub first : ℕ
+  pub more : List ℕ
+  pub is : digits ≡ first ∷ more
+  pub all : list_all is_digit digits ≡ true
   lead : 1 ≤ n → 48 < first
   single : n < 10 → more ≡ []
   value : decimal_after 0 digits ≡ n
@@ -57,17 +57,17 @@ more_digits n digits high are = record {
       after_append 0 digits (48 + n % 10) ∙ ap (λ v. 10 * v + (48 + n % 10 - 48)) are.value ∙ last;
 }
 
-digits_of : (n : ℕ) → n < 2 ^ 64 → AreDigits n (decimal n)
+pub digits_of : (n : ℕ) → n < 2 ^ 64 → AreDigits n (decimal n)
 digits_of n small = decimal_by_steps AreDigits one_digit more_digits n small
 
-digit_word : (byte : ℕ) → is_digit byte ≡ true → is_word_byte byte ≡ true
+pub digit_word : (byte : ℕ) → is_digit byte ≡ true → is_word_byte byte ≡ true
 digit_word byte is = ap (λ d. is_letter byte || d) is ∙ by (is_letter byte)
   where
     by : (letter : Bool) → (letter || true) ≡ true
     by true = refl
     by false = refl
 
-digits_words : (digits : List ℕ) → list_all is_digit digits ≡ true → list_all is_word_byte digits ≡ true
+pub digits_words : (digits : List ℕ) → list_all is_digit digits ≡ true → list_all is_word_byte digits ≡ true
 digits_words [] all = refl
 digits_words (digit ∷ digits) all =
     let parts = and_parts (is_digit digit) (list_all is_digit digits) all in
@@ -91,7 +91,7 @@ not_le a b less = by (nat_le a b) refl
     by true is = absurd (omega (arith, leb-true a b is, less))
     by false is = refl
 
-not_same : (a b : ℕ) → (a ≡ b → ⊥) → (a == b) ≡ false
+pub not_same : (a b : ℕ) → (a ≡ b → ⊥) → (a == b) ≡ false
 not_same a b differs = by (a == b) refl
   where
     by : (same : Bool) → (a == b) ≡ same → same ≡ false
@@ -121,7 +121,7 @@ module _ (n : ℕ) (digits rest : List ℕ) (are : AreDigits n digits) (ends : e
   positive_at : number_at false (digits ++ rest) ≡ Some (lexeme.Number, length digits)
   positive_at = it_is (λ t. t) (is_natural (take (run (digits ++ rest)) (digits ++ rest))) _ _ whole ∙ ap (λ k. Some (lexeme.Number, k)) whole_run
 
-  first_digit : is_digit are.first ≡ true
+  pub first_digit : is_digit are.first ≡ true
   first_digit = (and_parts (is_digit are.first) (list_all is_digit are.more) (subst (λ ds. list_all is_digit ds ≡ true) are.is are.all)).0
 
   first_high : 48 ≤ are.first
