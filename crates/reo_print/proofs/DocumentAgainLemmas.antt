@@ -1,48 +1,35 @@
 -- The canonical text of a document spells it again.
-use Rattle.std.proofs.Common.{◌≡◌, ◌≢◌, ℕ, suc, ◌+◌, ◌-◌, ◌<◌, ◌≤◌, nat_le, Bool, true, false, List, [], ◌∷◌, ◌++◌, length, map, Option, Some, None, is_some, slice_get, flat_map, codes, IsUtf8, refl, sym, ap, subst, ◌∙◌, arith, append_assoc, append-nil, length-append, length-set, if◌then◌else◌}
+use Rattle.std.proofs.Common.{◌≡◌, ◌≢◌, ℕ, ◌+◌, ◌<◌, true, false, List, [], ◌∷◌, ◌++◌, length, map, None, flat_map, codes, IsUtf8, refl, sym, ap, subst, ◌∙◌, arith, append_assoc, append-nil, if◌then◌else◌}
 use Rattle.std.specs.List.{filter_map}
 use Rattle.std.proofs.lemmas.Bool.{false≢true}
-use Rattle.std.proofs.lemmas.Option.{none-some}
 use Rattle.std.proofs.lemmas.List.Concat.{flat_map-append}
 use Rattle.reo_token.specs.declared.token.Token.{Token as CutToken}
-use Rattle.reo_token.specs.declared.token.End.TheVariants.{Over}
-use Rattle.reo_token.specs.Cut.{cut}
-use Rattle.reo_token.proofs.CutLemmas.{cut-over}
-use Rattle.reo_value.specs.Lexicon.{place_of, added, text_at}
-use Rattle.reo_value.proofs.LexiconLemmas.{place_of-push, slice_get-place_of}
+use Rattle.reo_value.specs.Lexicon.{added, text_at}
 use Rattle.reo_value.specs.declared.op.Op.{Op}
-use Rattle.reo_value.specs.declared.op.Op.TheVariants as op
 use Rattle.reo_value.specs.declared.op.Way.{Way}
-use Rattle.reo_value.specs.declared.op.Way.TheVariants as way
-use Rattle.reo_value.specs.declared.value.Value.{Value}
 use Rattle.reo_net.specs.declared.kind.Kind as net
-use Rattle.reo_net.specs.declared.circuit.Port.{Port}
-use Rattle.reo_grammar.specs.Token.{Token, Const}
 use Rattle.reo_grammar.specs.Lines as grammar
 use Rattle.reo_grammar.specs.Lines.{Sentence, PortLine, ChannelLine, ComponentLine, PutLine, GetLine, LineTree, line_tokens, Place, Section, OfCircuit, OfScripts, is_allowed, section_of, IsLine}
 use Rattle.reo_sentence.specs.Seen.{seen}
 use Rattle.reo_sentence.specs.Limits.{is_wide, is_long}
 use Rattle.reo_sentence.specs.Numbered.{number_in}
-use Rattle.reo_sentence.specs.Said.{Said, PortSaid, ChannelSaid, ComponentSaid, PutSaid, GetSaid, numbered_sentence}
+use Rattle.reo_sentence.specs.Said.{PortSaid, ChannelSaid, numbered_sentence}
 use Rattle.reo_document.specs.declared.line.Line.{Line}
 use Rattle.reo_document.specs.declared.line.Line.TheVariants as line
 use Rattle.reo_document.specs.declared.refusal.TextRefusal.{TextRefusal}
 use Rattle.reo_document.specs.declared.refusal.TextRefusal.TheVariants.{NumberRange, TextLong}
 use Rattle.reo_document.specs.Document.{DocumentData, port_in}
-use Rattle.reo_document.specs.Lines.{lines_of}
-use Rattle.reo_document.specs.Placed.{misplaced, port_number, with_operation, with_said}
-use Rattle.reo_document.specs.Spells.{empty, place_by, place_in, Outcome, Goes, Stops, outcome_by, placed, outcome_of, tokens_in, Leads, bad, large, skipped, wrong, says, Then, LinesLead, Spells}
+use Rattle.reo_document.specs.Placed.{misplaced, with_operation, with_said}
+use Rattle.reo_document.specs.Spells.{empty, place_by, place_in, Outcome, Goes, Stops, outcome_by, placed, outcome_of, tokens_in, Leads, says, Then, LinesLead}
 use Rattle.reo_trace.specs.Passes.{numbered}
-use Rattle.reo_trace.specs.ReportText.{value_text, node_text}
-use Rattle.reo_print.specs.Again.{DocumentsAreSpelledAgain}
 use Rattle.reo_print.specs.Canonical.{kind_word, kind_rest, way_word, circuit_line, operation_line, script_lines, canonical_text}
 use Rattle.reo_print.specs.Sentences.{said_text, tree_of}
 use Rattle.reo_print.specs.Trees.{Extends}
 use Rattle.reo_print.proofs.LineWriteLemmas.{sentence_writes, line_said, read_again, whole_line, tree_allowed}
 use Rattle.reo_print.proofs.PlainLemmas.{IsPlain, line_plain}
-use Rattle.reo_print.proofs.ScriptLemmas.{circuit_more, numbered_more, operations_more, script_more, first_numbered, port_node}
-use Rattle.reo_print.proofs.TextLinesLemmas.{in_lines, ArePlain, plain_more, plain_utf8, lines_of-in_lines, AreUtf8, all_lines_utf8}
-use Rattle.reo_print.proofs.TextPlaceLemmas.{extends_same, extends_more, extends_through, extends_added, text_there, text_numbered, sentence_extends}
+use Rattle.reo_print.proofs.ScriptLemmas.{circuit_more, numbered_more, operations_more, script_more, first_numbered}
+use Rattle.reo_print.proofs.TextLinesLemmas.{in_lines, ArePlain, plain_more}
+use Rattle.reo_print.proofs.TextPlaceLemmas.{text_numbered}
 
 -- the document with more names and texts
 abbrev pub named : DocumentData → List (List ℕ) → List (List ℕ) → List (List ℕ) → DocumentData

@@ -1,18 +1,17 @@
 -- What is written of a function are its tokens.
-use Rattle.std.proofs.Common.{◌≡◌, ℕ, ℤ, Bool, true, false, ◌||◌, List, [], ◌∷◌, ◌++◌, codes, flat_map, refl, sym, ap, subst, ◌∙◌, append_assoc, append-nil}
+use Rattle.std.proofs.Common.{◌≡◌, ℕ, false, ◌||◌, List, [], ◌∷◌, ◌++◌, codes, flat_map, refl, sym, append_assoc, append-nil}
 use Rattle.std.proofs.lemmas.Bool.{or_parts}
 use Rattle.reo_token.specs.declared.token.Symbol.TheVariants as sign
-use Rattle.reo_value.specs.declared.value.Value.{Value}
 use Rattle.reo_grammar.specs.declared.key.Key.TheVariants as key
-use Rattle.reo_grammar.specs.Token.{Token, Number, Text, Sign, Const, const_token, word}
-use Rattle.reo_grammar.specs.Functions.{Function, Add, Sub, Mul, Neg, Len, Map, pair_tokens, further_tokens, pairs_tokens, function_tokens}
-use Rattle.reo_sentence.specs.Limits.{is_wide_const, are_wide_pairs, is_wide_function}
-use Rattle.reo_sentence.specs.Numbered.{numbered_const, numbered_pair, numbered_pairs, numbered_function}
+use Rattle.reo_grammar.specs.Token.{Token, Number, Sign, Const, const_token, word}
+use Rattle.reo_grammar.specs.Functions.{Add, Sub, Mul, Neg, Len, Map, pair_tokens, further_tokens, pairs_tokens}
+use Rattle.reo_sentence.specs.Limits.{is_wide_const, are_wide_pairs}
+use Rattle.reo_sentence.specs.Numbered.{numbered_const, numbered_pair, numbered_pairs}
 use Rattle.reo_trace.specs.ReportText.{value_text}
-use Rattle.reo_print.specs.Canonical.{pair_text, next_text, pairs_text, function_text}
+use Rattle.reo_print.specs.Canonical.{pair_text, next_text, pairs_text}
 use Rattle.reo_print.specs.Trees.{AreSpellable, Extends, Writes, FunctionsAreWritten}
 use Rattle.reo_print.proofs.TreeLemmas.{spellable_parts}
-use Rattle.reo_print.proofs.WriteLemmas.{writes_as, writes_token, writes_then, writes_behind, writes_between, writes_comma, writes_nothing_more}
+use Rattle.reo_print.proofs.WriteLemmas.{writes_as, writes_token, writes_then, writes_behind, writes_between, writes_comma}
 use Rattle.reo_print.proofs.TextPlaceLemmas.{extends_through, const_extends, pairs_extend}
 use Rattle.reo_print.proofs.GuardWriteLemmas.{integer_written, const_writes}
 

@@ -1,13 +1,13 @@
 -- What is written of a guard are the tokens of its trees.
-use Rattle.std.proofs.Common.{◌≡◌, ℕ, ℤ, pos, negsuc, nat_abs, ◌+◌, ◌-◌, ◌<◌, ◌≤◌, ◌^◌, nat_le, Bool, true, false, not, ◌&&◌, ◌||◌, List, [], ◌∷◌, ◌++◌, length, codes, decimal, Option, Some, None, is_none, unwrap_or, refl, sym, ap, subst, ◌∙◌, arith, append_assoc}
+use Rattle.std.proofs.Common.{◌≡◌, ℕ, ℤ, pos, negsuc, nat_abs, ◌-◌, ◌<◌, ◌≤◌, ◌^◌, nat_le, Bool, true, false, not, ◌&&◌, List, [], ◌∷◌, ◌++◌, codes, decimal, Option, Some, None, is_none, unwrap_or, refl, sym, ap, subst, ◌∙◌, arith}
 use Rattle.std.specs.Prelude.{if◌then◌else◌, nat_lt}
 use Rattle.std.specs.Option.{option_map, option_and_then}
 use Rattle.std.proofs.lemmas.Bool.{and_parts, or_parts, leb-true, ltb-true, false≢true}
 use Rattle.std.proofs.lemmas.Option.{none-some, same_Some}
 use Rattle.reo_token.specs.declared.token.Symbol.TheVariants as sign
-use Rattle.reo_value.specs.Lexicon.{added, text_at}
+use Rattle.reo_value.specs.Lexicon.{added}
 use Rattle.reo_value.specs.declared.value.Value.{Value}
-use Rattle.reo_value.specs.declared.value.Value.TheVariants.{Int, Sym}
+use Rattle.reo_value.specs.declared.value.Value.TheVariants.{Sym}
 use Rattle.reo_guard.specs.declared.guard.Cmp.{Cmp}
 use Rattle.reo_guard.specs.declared.guard.Cmp.TheVariants.{Eq, Ne, Lt, Le, Gt, Ge}
 use Rattle.reo_guard.specs.declared.guard.Guard as numbered
@@ -16,7 +16,7 @@ use Rattle.reo_guard.specs.declared.guard.Guard.TheOpen.{Guard-F}
 use Rattle.reo_guard.specs.declared.guard.Guard.TheFolds.{fold-roll-Guard}
 use Rattle.reo_grammar.specs.declared.key.Key.TheVariants as key
 use Rattle.reo_grammar.specs.Token.{Token, Number, Text, Sign, Const, Integer, Phrase, const_token, word}
-use Rattle.reo_grammar.specs.Guards.{Atom, Compare, Mod, IsInt, IsText, LenAtMost, Starts, atom_tokens, sign_of, guard_tokens, term_tokens, factor_tokens, Guard, Test, Both, Either, Fails}
+use Rattle.reo_grammar.specs.Guards.{Atom, Compare, Mod, IsInt, IsText, LenAtMost, Starts, atom_tokens, sign_of, guard_tokens, Guard, Test, Both, Either, Fails}
 use Rattle.reo_sentence.specs.Limits.{is_number, natural_in, small_remainder, small_length, is_wide_const, is_wide_atom, is_wide_guard}
 use Rattle.reo_sentence.specs.Numbered.{number_in, numbered_const, mod_guard, numbered_atom, numbered_guard}
 use Rattle.reo_trace.specs.ReportText.{value_text}
@@ -25,7 +25,7 @@ use Rattle.reo_print.specs.declared.guard.Level.TheVariants.{AsGuard, AsTerm, As
 use Rattle.reo_print.specs.Canonical.{cmp_text, layer_text, guard_text}
 use Rattle.reo_print.specs.Tokens.{written, CanBeWritten}
 use Rattle.reo_print.specs.Trees.{trees_of, tokens_at, IsSpellable, AreSpellable, HasSpellableAtoms, Extends, Writes, GuardsAreWritten}
-use Rattle.reo_print.proofs.WriteLemmas.{writes_as, writes_token, writes_behind, writes_between, writes_brackets, writes_nothing_more}
+use Rattle.reo_print.proofs.WriteLemmas.{writes_token, writes_behind, writes_between, writes_brackets, writes_nothing_more}
 use Rattle.reo_print.proofs.TextPlaceLemmas.{extends_through, text_numbered, guard_extends}
 
 -- a number in its range has at most 64 bits

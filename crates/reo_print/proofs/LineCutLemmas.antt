@@ -1,7 +1,6 @@
 -- Tokens as they are written are cut again as these tokens.
-use Rattle.std.proofs.Common.{◌≡◌, ℕ, zero, suc, ◌+◌, ◌-◌, ◌<◌, ◌≤◌, Bool, true, false, List, [], ◌∷◌, ◌++◌, length, map, take, drop, Some, refl, sym, ap, subst, ◌∙◌, arith, if◌then◌else◌}
+use Rattle.std.proofs.Common.{◌≡◌, ℕ, zero, suc, ◌+◌, ◌-◌, ◌≤◌, List, [], ◌∷◌, ◌++◌, length, map, take, drop, Some, refl, sym, ap, subst, ◌∙◌, arith, if◌then◌else◌}
 use Rattle.std.proofs.lemmas.List.{drop-drop, drop_at}
-use Rattle.reo_token.specs.declared.token.Symbol.{Symbol}
 use Rattle.reo_token.specs.declared.token.Symbol.TheVariants.{Open}
 use Rattle.reo_token.specs.declared.token.Token.{Token as CutToken}
 use Rattle.reo_token.specs.declared.token.Lexeme.{Lexeme}

@@ -1,29 +1,25 @@
 -- What is written of a line is read again.
-use Rattle.std.proofs.Common.{◌≡◌, ℕ, ◌+◌, ◌≤◌, Bool, true, false, List, [], ◌∷◌, ◌++◌, length, map, All, Option, Some, None, codes, IsUtf8, refl, sym, ap, subst, ◌∙◌, arith, append-nil}
+use Rattle.std.proofs.Common.{◌≡◌, ℕ, ◌≤◌, true, false, List, [], ◌∷◌, ◌++◌, length, map, All, Some, None, codes, IsUtf8, refl, sym, ap, subst, ◌∙◌, arith, append-nil}
 use Rattle.std.proofs.lemmas.List.{length-map}
-use Rattle.reo_token.specs.declared.token.End.TheVariants.{Over}
 use Rattle.reo_token.specs.Cut.{cut}
-use Rattle.reo_value.specs.declared.op.Way.{Way}
 use Rattle.reo_value.specs.declared.op.Way.TheVariants as way
-use Rattle.reo_net.specs.declared.kind.Kind as net
 use Rattle.reo_grammar.specs.declared.key.Key.TheVariants as key
-use Rattle.reo_grammar.specs.Token.{Token, Word, Const, const_token, word}
-use Rattle.reo_grammar.specs.Guards.{guard_tokens, guard_of}
+use Rattle.reo_grammar.specs.Token.{Token, Word, const_token, word}
 use Rattle.reo_grammar.specs.Functions.{function_tokens}
 use Rattle.reo_grammar.specs.Lines.{KindTree, Sync, Lossy, Drain, Fifo, Full, Filter, Transform, LineTree, Port, Channel, Component, Put, Get, kind_tokens, line_tokens, names_of, section_of, is_allowed, Kind, SyncKind, LossyKind, DrainKind, FifoKind, FilterKind, TransformKind, kind_of, Sentence, PortLine, ChannelLine, ComponentLine, PutLine, GetLine, sentence_of, Place, IsLine}
 use Rattle.reo_sentence.specs.Seen.{seen}
-use Rattle.reo_sentence.specs.Limits.{is_wide, is_wide_kind}
+use Rattle.reo_sentence.specs.Limits.{is_wide_kind}
 use Rattle.reo_sentence.specs.Numbered.{numbered_const, numbered_guard, numbered_function}
 use Rattle.reo_sentence.specs.Said.{numbered_kind, numbered_sentence}
 use Rattle.reo_trace.specs.ReportText.{value_text}
 use Rattle.reo_print.specs.declared.guard.Level.TheVariants.{AsGuard}
 use Rattle.reo_print.specs.Canonical.{guard_text, function_text}
 use Rattle.reo_print.specs.Tokens.{IsWritten, over}
-use Rattle.reo_print.specs.Trees.{trees_of, tokens_at, IsSpellable, AreSpellable, Extends, Writes}
+use Rattle.reo_print.specs.Trees.{tokens_at, IsSpellable, AreSpellable, Extends, Writes}
 use Rattle.reo_print.specs.Sentences.{said_text, kind_tree, tree_of, HasSpellableKind, CanBeSaid, SentencesAreWritten, SentencesAreReadAgain}
 use Rattle.reo_print.proofs.LineCutLemmas.{line_cut}
 use Rattle.reo_print.proofs.TreeLemmas.{trees_mean, guard_shortest, guard_spellable}
-use Rattle.reo_print.proofs.WriteLemmas.{writes_as, writes_token, writes_then, writes_blank, writes_behind, writes_nothing_more}
+use Rattle.reo_print.proofs.WriteLemmas.{writes_token, writes_then, writes_blank, writes_behind, writes_nothing_more}
 use Rattle.reo_print.proofs.GuardWriteLemmas.{const_writes, guard_writes}
 use Rattle.reo_print.proofs.FunctionWriteLemmas.{function_writes}
 use Rattle.reo_print.proofs.SourceLemmas.{line_spellable, line_few}

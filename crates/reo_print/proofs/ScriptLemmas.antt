@@ -1,5 +1,5 @@
 -- How the canonical text grows with a line.
-use Rattle.std.proofs.Common.{◌≡◌, ℕ, zero, suc, ◌+◌, ◌-◌, ◌<◌, ◌≤◌, Bool, true, false, List, [], ◌∷◌, ◌++◌, length, Option, Some, None, slice_get, set, get_or, unwrap_or, flat_map, codes, refl, sym, ap, subst, ◌∙◌, arith, append_assoc, append-nil}
+use Rattle.std.proofs.Common.{◌≡◌, ℕ, suc, ◌+◌, ◌-◌, ◌<◌, List, [], ◌∷◌, ◌++◌, length, Option, Some, None, slice_get, set, get_or, unwrap_or, flat_map, refl, sym, ap, ◌∙◌, arith, append_assoc, append-nil}
 use Rattle.std.specs.List.{filter_map}
 use Rattle.std.specs.Option.{option_and_then, option_map_or}
 use Rattle.std.proofs.lemmas.List.Concat.{flat_map-append}
@@ -8,7 +8,6 @@ use Rattle.reo_value.specs.Lexicon.{place_of, added, text_at}
 use Rattle.reo_value.proofs.LexiconLemmas.{place_of-added_itself, place_of-added, slice_get-place_of}
 use Rattle.reo_value.specs.declared.op.Op.{Op}
 use Rattle.reo_value.specs.declared.op.Way.{Way}
-use Rattle.reo_net.specs.declared.circuit.Port.{Port}
 use Rattle.reo_sentence.specs.Numbered.{number_in}
 use Rattle.reo_document.specs.declared.line.Line.{Line}
 use Rattle.reo_document.specs.Document.{DocumentData, port_in}
@@ -16,9 +15,8 @@ use Rattle.reo_document.specs.Placed.{port_from, port_named, misplaced_at, port_
 use Rattle.reo_document.proofs.DocumentLemmas.{port_from-stands}
 use Rattle.reo_trace.specs.Passes.{numbered}
 use Rattle.reo_trace.specs.ReportText.{node_text}
-use Rattle.reo_print.specs.Canonical.{circuit_line, operation_line}
 use Rattle.reo_print.specs.Trees.{Extends}
-use Rattle.reo_print.proofs.TextPlaceLemmas.{extends_through, extends_added, text_there, text_numbered}
+use Rattle.reo_print.proofs.TextPlaceLemmas.{text_there}
 
 -- a line of the circuit more, while there are no scripts
 pub circuit_more : (f : Line → List ℕ) (lines : List Line) (line : Line) (scripts later : List ℕ) → scripts ≡ [] → later ≡ []

@@ -1,19 +1,18 @@
 -- What the tokens of a line are: names, and texts that can be spelled.
-use Rattle.std.proofs.Common.{◌≡◌, ◌⊎◌, inl, inr, ℕ, zero, suc, ◌+◌, ◌-◌, ◌<◌, ◌≤◌, ◌==◌, nat_lt, nat_le, Bool, true, false, cond, ◌&&◌, ◌||◌, List, [], ◌∷◌, ◌++◌, length, map, take, drop, get_or, slice_index, Option, Some, None, IsUtf8, refl, sym, ap, subst, ◌∙◌, arith, if◌then◌else◌}
+use Rattle.std.proofs.Common.{◌≡◌, inl, inr, ℕ, zero, suc, ◌+◌, ◌-◌, ◌<◌, ◌≤◌, ◌==◌, nat_lt, nat_le, Bool, true, false, cond, ◌&&◌, ◌||◌, List, [], ◌∷◌, length, map, take, drop, get_or, slice_index, Option, Some, None, IsUtf8, refl, sym, ap, subst, ◌∙◌, arith, if◌then◌else◌}
 use Rattle.std.specs.Option.{option_map}
 use Rattle.std.specs.List.{list_all}
-use Rattle.std.proofs.lemmas.Bool.{and_from, or_cases, eqb-true, ltb-false, le-leb, cases_lt, false≢true}
+use Rattle.std.proofs.lemmas.Bool.{and_from, or_cases, eqb-true, ltb-false, le-leb, cases_lt}
 use Rattle.std.proofs.lemmas.Option.{none-some, same_Some}
 use Rattle.std.proofs.lemmas.List.{get_or-drop, get_or_past, drop-drop}
 use Rattle.std.proofs.lemmas.Str.{IsUtf8-between, IsCharBoundary-before_ascii, IsCharBoundary-after_ascii}
 use Rattle.reo_token.specs.declared.token.Symbol.{Symbol}
 use Rattle.reo_token.specs.declared.token.Lexeme.{Lexeme}
 use Rattle.reo_token.specs.declared.token.Lexeme.TheVariants as lexeme
-use Rattle.reo_token.specs.declared.token.Token.{Token as CutToken}
 use Rattle.reo_token.specs.declared.token.End.TheVariants.{Over}
 use Rattle.reo_token.specs.Bytes.{is_letter, is_digit, is_word_byte, can_be_escaped}
 use Rattle.reo_token.specs.Cut.{blanks, run, is_over, is_natural, number_at, behind_minus, text_by, text_len, text_at, long_symbol, short_symbol, signed, or_else, symbol_at, token_at, first_token, cut}
-use Rattle.reo_sentence.specs.Seen.{meant, byte_step, behind_byte, unescaped_from, unescaped, seen}
+use Rattle.reo_sentence.specs.Seen.{meant, behind_byte, unescaped_from, unescaped, seen}
 use Rattle.reo_sentence.proofs.Utf8Lemmas.{unescaped_utf8}
 use Rattle.reo_print.specs.Laws.{can_be_a_name, can_be_spelled}
 use Rattle.reo_print.specs.Trees.{IsSpellable, AreSpellable}

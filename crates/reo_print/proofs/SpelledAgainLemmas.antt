@@ -1,8 +1,6 @@
 -- Line by line, the canonical text leads where the lines led.
-use Rattle.std.proofs.Common.{◌≡◌, ℕ, ◌+◌, ◌<◌, ◌≤◌, nat_le, Bool, true, false, List, [], ◌∷◌, ◌++◌, length, map, Option, Some, None, is_some, slice_get, codes, IsUtf8, refl, sym, ap, subst, ◌∙◌, arith, append-nil, length-append, length-set, if◌then◌else◌, slice_index_or}
-use Rattle.std.specs.List.{filter_map}
+use Rattle.std.proofs.Common.{◌≡◌, ℕ, ◌+◌, nat_le, Bool, true, false, List, [], ◌∷◌, ◌++◌, length, map, Option, Some, None, is_some, codes, IsUtf8, refl, sym, ap, subst, ◌∙◌, arith, length-append, length-set, if◌then◌else◌}
 use Rattle.std.proofs.lemmas.Option.{none-some}
-use Rattle.reo_token.specs.declared.token.End.TheVariants.{Over}
 use Rattle.reo_token.proofs.CutLemmas.{cut-over}
 use Rattle.reo_value.specs.Lexicon.{place_of, added, text_at}
 use Rattle.reo_value.proofs.LexiconLemmas.{place_of-push, slice_get-place_of}
@@ -16,22 +14,22 @@ use Rattle.reo_grammar.specs.Lines.{Kind, Sentence, PortLine, ChannelLine, Compo
 use Rattle.reo_sentence.specs.Seen.{seen}
 use Rattle.reo_sentence.specs.Limits.{is_wide, is_long}
 use Rattle.reo_sentence.specs.Numbered.{number_in, numbered_const}
-use Rattle.reo_sentence.specs.Said.{Said, PortSaid, ChannelSaid, ComponentSaid, PutSaid, GetSaid, numbered_kind, numbered_sentence}
+use Rattle.reo_sentence.specs.Said.{PortSaid, ChannelSaid, ComponentSaid, PutSaid, GetSaid, numbered_kind, numbered_sentence}
 use Rattle.reo_document.specs.declared.line.Line.TheVariants as line
-use Rattle.reo_document.specs.declared.refusal.TextRefusal.{TextRefusal}
 use Rattle.reo_document.specs.declared.refusal.TextRefusal.TheVariants.{NumberRange, TextLong}
-use Rattle.reo_document.specs.Document.{DocumentData, port_in}
+use Rattle.reo_document.specs.Document.{DocumentData}
 use Rattle.reo_document.specs.Lines.{lines_of}
-use Rattle.reo_document.specs.Placed.{misplaced, port_number, with_operation}
+use Rattle.reo_document.specs.Placed.{misplaced, port_number}
 use Rattle.reo_document.specs.Spells.{empty, place_in, Outcome, Goes, Stops, outcome_by, placed, outcome_of, tokens_in, Leads, bad, large, skipped, wrong, says, Then, LinesLead, Spells}
-use Rattle.reo_trace.specs.ReportText.{value_text, node_text}
-use Rattle.reo_print.specs.Again.{DocumentsAreSpelledAgain}
+use Rattle.reo_trace.specs.ReportText.{value_text}
+use Rattle.reo_document.proofs.SpellLemmas.{one_document, refused_alone}
+use Rattle.reo_print.specs.Again.{IsSpelled, DocumentsAreSpelledAgain, TextsSpellNoOther, TextsAreNotRefused, TextsTellApart}
 use Rattle.reo_print.specs.Canonical.{canonical_text}
 use Rattle.reo_print.specs.Sentences.{said_text}
 use Rattle.reo_print.specs.Trees.{Extends}
-use Rattle.reo_print.proofs.DocumentAgainLemmas.{named, IsAgain, IsAgainLater, goes_stops, same_goes, lead_more, one_more, IsSaid, next_of, again_leads, again_plain, some_people, allowed_there, in_circuit, circuit_grows, port_line, channel_line, component_grows, operation_grows}
+use Rattle.reo_print.proofs.DocumentAgainLemmas.{IsAgain, IsAgainLater, lead_more, one_more, IsSaid, next_of, again_leads, again_plain, some_people, allowed_there, in_circuit, circuit_grows, port_line, channel_line, component_grows, operation_grows}
 use Rattle.reo_print.proofs.ScriptLemmas.{port_node}
-use Rattle.reo_print.proofs.TextLinesLemmas.{in_lines, ArePlain, plain_utf8, lines_of-in_lines, AreUtf8, all_lines_utf8}
+use Rattle.reo_print.proofs.TextLinesLemmas.{plain_utf8, lines_of-in_lines, AreUtf8, all_lines_utf8}
 use Rattle.reo_print.proofs.TextPlaceLemmas.{extends_same, extends_more, extends_through, extends_added, text_there, sentence_extends}
 
 port_again : (d : DocumentData) (source : List ℕ) (goes : Way) (node : List ℕ) → IsAgainLater d → IsSaid d source (PortLine goes node) → IsAgainLater (next_of d (PortLine goes node))
@@ -179,7 +177,21 @@ again_spells d is =
     (plain_utf8 is.lines is.plain, subst (λ ls. LinesLead empty 1 ls (Goes d)) (sym (lines_of-in_lines is.lines is.plain)) (lead_more empty d d 1 is.lines [] is.lead (last_skipped d)))
 
 pub spelled_again : DocumentsAreSpelledAgain
-spelled_again bytes document spells =
+spelled_again document is =
     again_spells document
-    ((lines_again empty 1 (lines_of bytes) (Goes document) empty_again (all_lines_utf8 bytes spells.0) spells.1).later document.nodes document.texts document.people
+    ((lines_again empty 1 (lines_of is.bytes) (Goes document) empty_again (all_lines_utf8 is.bytes is.spells.0) is.spells.1).later document.nodes document.texts document.people
     (extends_same document.nodes) (extends_same document.texts) (extends_same document.people))
+
+pub no_other : TextsSpellNoOther
+no_other one other is spells = one_document (canonical_text one) other one spells (spelled_again one is)
+
+pub not_refused : TextsAreNotRefused
+not_refused document refusal is refused = refused_alone (canonical_text document) document refusal (spelled_again document is) refused
+
+pub told_apart : TextsTellApart
+told_apart one other is also same =
+    one_document (canonical_text other) one other (subst (λ text. Spells text one) same (spelled_again one is)) (spelled_again other also)
+
+-- a text that is the canonical one
+pub text_again : (document : DocumentData) (text : List ℕ) → text ≡ canonical_text document → IsSpelled document → Spells text document
+text_again document text same is = subst (λ bytes. Spells bytes document) (sym same) (spelled_again document is)

@@ -1,5 +1,5 @@
 -- The trees with as few brackets as a guard needs.
-use Rattle.std.proofs.Common.{◌≡◌, ℕ, ◌+◌, ◌≤◌, List, [], ◌∷◌, ◌++◌, length, refl, sym, ap, ◌∙◌, arith, length-append}
+use Rattle.std.proofs.Common.{◌≡◌, ◌+◌, ◌≤◌, List, [], ◌∷◌, ◌++◌, length, refl, ap, ◌∙◌, arith, length-append}
 use Rattle.reo_token.specs.declared.token.Symbol.TheVariants.{Open, Close}
 use Rattle.reo_grammar.specs.declared.key.Key.TheVariants as key
 use Rattle.reo_grammar.specs.Token.{Token, Sign, word}

@@ -1,8 +1,8 @@
 -- How what is written is put together.
-use Rattle.std.proofs.Common.{◌≡◌, ℕ, Bool, true, false, List, [], ◌∷◌, ◌++◌, codes, refl, sym, ap, subst, ◌∙◌, append_assoc, append-nil}
+use Rattle.std.proofs.Common.{◌≡◌, ℕ, List, [], ◌∷◌, ◌++◌, codes, refl, sym, subst, append_assoc, append-nil}
 use Rattle.reo_token.specs.declared.token.Symbol.TheVariants.{Open, Close, Comma}
 use Rattle.reo_grammar.specs.Token.{Token, Sign}
-use Rattle.reo_print.specs.Tokens.{written, breaks, CanBeWritten, IsWritten, over, blank, opens, token}
+use Rattle.reo_print.specs.Tokens.{written, CanBeWritten, IsWritten, blank, opens, token}
 use Rattle.reo_print.specs.Trees.{Writes}
 
 pub writes_as : (xs ys : List ℕ) (ts bs : List Token) → xs ≡ ys → ts ≡ bs → Writes xs ts → Writes ys bs

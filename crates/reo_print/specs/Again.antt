@@ -1,9 +1,29 @@
 -- The canonical text of a document spells it again.
-use Rattle.std.specs.Prelude.{ℕ, List}
+use Rattle.std.specs.Prelude.{◌≡◌, ℕ, List}
+use Rattle.reo_document.specs.declared.refusal.TextRefusal.{TextRefusal}
 use Rattle.reo_document.specs.Document.{DocumentData}
-use Rattle.reo_document.specs.Spells.{Spells}
+use Rattle.reo_document.specs.Spells.{Spells, IsRefusedAs}
 use Rattle.reo_print.specs.Canonical.{canonical_text}
 
--- a document that some bytes spell
+-- bytes spell the document
+pub record IsSpelled (document : DocumentData) : Type 0 where
+  pub bytes : List ℕ
+  pub spells : Spells bytes document
+
+-- a document that bytes spell is spelled by its canonical text
 abbrev pub DocumentsAreSpelledAgain : Type 0
-DocumentsAreSpelledAgain = (bytes : List ℕ) (document : DocumentData) → Spells bytes document → Spells (canonical_text document) document
+DocumentsAreSpelledAgain = (document : DocumentData) → IsSpelled document → Spells (canonical_text document) document
+
+-- this text spells no other document
+abbrev pub TextsSpellNoOther : Type 0
+TextsSpellNoOther = (one other : DocumentData) → IsSpelled one → Spells (canonical_text one) other → other ≡ one
+
+-- and is not refused
+abbrev pub TextsAreNotRefused : Type 0
+TextsAreNotRefused = (document : DocumentData) (refusal : TextRefusal) → IsSpelled document
+    → IsRefusedAs (canonical_text document) refusal → ⊥
+
+-- documents with one canonical text are one
+abbrev pub TextsTellApart : Type 0
+TextsTellApart = (one other : DocumentData) → IsSpelled one → IsSpelled other
+    → canonical_text one ≡ canonical_text other → one ≡ other

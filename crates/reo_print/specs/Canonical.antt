@@ -1,6 +1,6 @@
 -- The canonical text of a document: its lines in order, each with its tokens joined by single blanks, but none behind an opening
 -- bracket, before a closing one or before a comma, and with brackets only where a guard needs them.
-use Rattle.std.specs.Prelude.{ℕ, ◌+◌, if◌then◌else◌, Bool, true, false, List, [], ◌∷◌, ◌++◌, slice_get, flat_map, Option, Some, None, codes, decimal}
+use Rattle.std.specs.Prelude.{ℕ, if◌then◌else◌, Bool, true, false, List, [], ◌∷◌, ◌++◌, slice_get, flat_map, Some, None, codes, decimal}
 use Rattle.std.specs.Fmt.{signed_decimal}
 use Rattle.std.specs.List.{filter_map}
 use Rattle.reo_value.specs.Lexicon.{text_at}
@@ -19,7 +19,6 @@ use Rattle.reo_guard.specs.declared.fun.Fun.{Fun}
 use Rattle.reo_guard.specs.declared.fun.Fun.TheVariants.{Add, Sub, Mul, Neg, Len, Map}
 use Rattle.reo_net.specs.declared.kind.Kind.{Kind}
 use Rattle.reo_net.specs.declared.kind.Kind.TheVariants.{Sync, Lossy, Drain, Fifo, Filter, Transform}
-use Rattle.reo_net.specs.declared.circuit.Channel.{Channel}
 use Rattle.reo_net.specs.declared.circuit.Port.{Port}
 use Rattle.reo_document.specs.declared.line.Line.{Line}
 use Rattle.reo_document.specs.declared.line.Line.TheVariants as line

@@ -1,10 +1,10 @@
 -- Lines as they are written, with the names in place of their numbers.
-use Rattle.std.specs.Prelude.{◌≡◌, ℕ, ◌≤◌, Bool, true, false, List, [], ◌∷◌, ◌++◌, length, map, Option, Some, None, codes, IsUtf8}
+use Rattle.std.specs.Prelude.{◌≡◌, ℕ, false, List, ◌++◌, map, Some, None, codes, IsUtf8}
 use Rattle.reo_token.specs.declared.token.End.TheVariants.{Over}
 use Rattle.reo_token.specs.Cut.{cut}
-use Rattle.reo_grammar.specs.Token.{Token, Word, Const, const_token}
-use Rattle.reo_grammar.specs.Functions.{Function, function_tokens}
-use Rattle.reo_grammar.specs.Lines.{KindTree, Sync, Lossy, Drain, Fifo, Full, Filter, Transform, LineTree, Port, Channel, Component, Put, Get, line_tokens, Kind, SyncKind, LossyKind, DrainKind, FifoKind, FilterKind, TransformKind, Sentence, PortLine, ChannelLine, ComponentLine, PutLine, GetLine, sentence_of, Place, IsLine}
+use Rattle.reo_grammar.specs.Token.{Word, const_token}
+use Rattle.reo_grammar.specs.Functions.{function_tokens}
+use Rattle.reo_grammar.specs.Lines.{KindTree, Sync, Lossy, Drain, Fifo, Full, Filter, Transform, LineTree, Port, Channel, Component, Put, Get, line_tokens, Kind, SyncKind, LossyKind, DrainKind, FifoKind, FilterKind, TransformKind, Sentence, PortLine, ChannelLine, ComponentLine, PutLine, GetLine, Place, IsLine}
 use Rattle.reo_sentence.specs.Seen.{seen}
 use Rattle.reo_sentence.specs.Limits.{is_wide}
 use Rattle.reo_sentence.specs.Said.{Said, PortSaid, ChannelSaid, ComponentSaid, PutSaid, GetSaid, numbered_sentence}
@@ -56,12 +56,14 @@ CanBeSaid (GetLine node) = IsSpellable (Word node)
 
 -- what is written of a line are the tokens of its tree
 abbrev pub SentencesAreWritten : Type 0
-SentencesAreWritten = (sentence : Sentence) (known texts : List (List ℕ)) → Extends (numbered_sentence sentence known).0 texts → CanBeSaid sentence → is_wide sentence ≡ false
+SentencesAreWritten = (sentence : Sentence) (known texts : List (List ℕ)) → Extends (numbered_sentence sentence known).0 texts
+    → CanBeSaid sentence → is_wide sentence ≡ false
     → Writes (said_text texts (numbered_sentence sentence known).1) (line_tokens (tree_of sentence))
 
 -- what a line says is written as a line that says it again
 abbrev pub SentencesAreReadAgain : Type 0
 SentencesAreReadAgain = (place : Place) (line : List ℕ) (sentence : Sentence) (known texts : List (List ℕ)) → IsUtf8 line
-    → IsLine place (map (seen line) (cut 512 0 line).0) sentence → is_wide sentence ≡ false → Extends (numbered_sentence sentence known).0 texts
+    → IsLine place (map (seen line) (cut 512 0 line).0) sentence → is_wide sentence ≡ false
+    → Extends (numbered_sentence sentence known).0 texts
     → let again = said_text texts (numbered_sentence sentence known).1 in
     ((cut 512 0 again).1 ≡ Over) × IsLine place (map (seen again) (cut 512 0 again).0) sentence

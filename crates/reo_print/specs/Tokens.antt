@@ -1,5 +1,5 @@
 -- Tokens as they are written, one behind another.
-use Rattle.std.specs.Prelude.{◌≡◌, ℕ, ◌+◌, ◌^◌, ◌<◌, ◌≤◌, ◌==◌, nat_abs, Bool, true, ◌||◌, List, [], ◌∷◌, ◌++◌, length, map, flat_map, Some, codes, IsUtf8}
+use Rattle.std.specs.Prelude.{◌≡◌, ℕ, ◌^◌, ◌<◌, ◌≤◌, ◌==◌, nat_abs, Bool, true, ◌||◌, List, [], ◌∷◌, ◌++◌, length, map, flat_map, Some, codes, IsUtf8}
 use Rattle.std.specs.Fmt.{signed_decimal}
 use Rattle.std.specs.List.{list_all}
 use Rattle.reo_token.specs.declared.token.Symbol.{Symbol}
@@ -58,7 +58,8 @@ pub data IsWritten : List ℕ → List Token → Type 0 where
   over : IsWritten [] []
   blank : (bytes : List ℕ) (tokens : List Token) → IsWritten bytes tokens → IsWritten (32 ∷ bytes) tokens
   opens : (bytes : List ℕ) (tokens : List Token) → IsWritten bytes tokens → IsWritten (40 ∷ bytes) (Sign Open ∷ tokens)
-  token : (first : Token) (bytes : List ℕ) (tokens : List Token) → CanBeWritten first → breaks bytes ≡ true → IsWritten bytes tokens
+  token : (first : Token) (bytes : List ℕ) (tokens : List Token) → CanBeWritten first → breaks bytes ≡ true
+      → IsWritten bytes tokens
       → IsWritten (written first ++ bytes) (first ∷ tokens)
 
 -- a symbol is cut off as one token, which is the symbol

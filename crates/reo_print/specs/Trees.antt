@@ -1,8 +1,7 @@
 -- The trees of the grammar with as few brackets as a guard needs.
-use Rattle.std.specs.Prelude.{◌≡◌, ℕ, ◌≤◌, Bool, true, false, List, [], ◌∷◌, ◌++◌, length}
-use Rattle.reo_guard.specs.declared.guard.Guard as numbered
+use Rattle.std.specs.Prelude.{◌≡◌, ℕ, ◌≤◌, true, false, List, [], ◌∷◌, ◌++◌, length}
 use Rattle.reo_grammar.specs.Token.{Token, Word, Number, Text, Sign}
-use Rattle.reo_grammar.specs.Guards.{Atom, atom_tokens, GuardTree, TermTree, FactorTree, Term, Or, Factor, And, Not, Brackets, Only, guard_tokens, term_tokens, factor_tokens, Guard, Test, Both, Either, Fails, guard_of, term_of, factor_of}
+use Rattle.reo_grammar.specs.Guards.{atom_tokens, GuardTree, TermTree, FactorTree, Term, Or, Factor, And, Not, Brackets, Only, guard_tokens, term_tokens, factor_tokens, Guard, Test, Both, Either, Fails, guard_of, term_of, factor_of}
 use Rattle.reo_grammar.specs.Functions.{Function, function_tokens}
 use Rattle.reo_sentence.specs.Limits.{is_wide_guard, is_wide_function}
 use Rattle.reo_sentence.specs.Numbered.{numbered_guard, numbered_function}
@@ -63,12 +62,14 @@ pub record Extends (front whole : List (List ℕ)) : Type 0 where
 
 -- in front of what breaks, the bytes are these tokens as they are written
 pub record Writes (bytes : List ℕ) (tokens : List Token) : Type 0 where
-  pub before : (rest : List ℕ) (more : List Token) → breaks rest ≡ true → IsWritten rest more → IsWritten (bytes ++ rest) (tokens ++ more)
+  pub before : (rest : List ℕ) (more : List Token) → breaks rest ≡ true
+      → IsWritten rest more → IsWritten (bytes ++ rest) (tokens ++ more)
 
 -- the trees mean the guard
 abbrev pub TreesMeanTheGuard : Type 0
 TreesMeanTheGuard = (guard : Guard)
-    → (guard_of (trees_of guard).guard ≡ guard) × (term_of (trees_of guard).term ≡ guard) × (factor_of (trees_of guard).factor ≡ guard)
+    → let trees = trees_of guard in
+    (guard_of trees.guard ≡ guard) × (term_of trees.term ≡ guard) × (factor_of trees.factor ≡ guard)
 
 -- no tree that means it has fewer tokens
 abbrev pub TreesAreShortest : Type 0
@@ -76,10 +77,12 @@ TreesAreShortest = (tree : GuardTree) → length (tokens_at AsGuard (guard_of tr
 
 -- what is written of a guard, with its texts by number, are the tokens of its trees
 abbrev pub GuardsAreWritten : Type 0
-GuardsAreWritten = (guard : Guard) (known texts : List (List ℕ)) (level : Level) → Extends (numbered_guard guard known).0 texts → HasSpellableAtoms guard → is_wide_guard guard ≡ false
+GuardsAreWritten = (guard : Guard) (known texts : List (List ℕ)) (level : Level) → Extends (numbered_guard guard known).0 texts
+    → HasSpellableAtoms guard → is_wide_guard guard ≡ false
     → Writes (guard_text texts (numbered_guard guard known).1 level) (tokens_at level guard)
 
 -- and of a function its own tokens
 abbrev pub FunctionsAreWritten : Type 0
-FunctionsAreWritten = (function : Function) (known texts : List (List ℕ)) → Extends (numbered_function function known).0 texts → AreSpellable (function_tokens function)
+FunctionsAreWritten = (function : Function) (known texts : List (List ℕ)) → Extends (numbered_function function known).0 texts
+    → AreSpellable (function_tokens function)
     → is_wide_function function ≡ false → Writes (function_text texts (numbered_function function known).1) (function_tokens function)

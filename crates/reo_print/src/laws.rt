@@ -1,6 +1,6 @@
 //! Laws about the definitions, each a function that does nothing.
 ghost use Rattle.reo_print.specs.Laws.{TextsAreCutAgain, TextsAreMeantAgain, NamesAreCutAgain, NamesAreMeantAgain, NumbersAreCutAgain, NumbersAreMeantAgain};
-ghost use Rattle.reo_print.specs.Again.{DocumentsAreSpelledAgain};
+ghost use Rattle.reo_print.specs.Again.{DocumentsAreSpelledAgain, TextsSpellNoOther, TextsAreNotRefused, TextsTellApart};
 ghost use Rattle.reo_print.specs.Sentences.{SentencesAreWritten, SentencesAreReadAgain};
 ghost use Rattle.reo_print.specs.Tokens.{SymbolsAreCutAgain, LinesAreCutAgain};
 ghost use Rattle.reo_print.specs.Trees.{TreesMeanTheGuard, TreesAreShortest, GuardsAreWritten, FunctionsAreWritten};
@@ -51,7 +51,10 @@ pub fn written_lines_are_read_again()
     ensures again { SentencesAreReadAgain }
 {}
 
-/// The canonical text of a document that some bytes spell spells it again.
+/// The canonical text of a document that some bytes spell spells it again, and nothing else.
 pub fn written_documents_are_read_again()
-    ensures { DocumentsAreSpelledAgain }
+    ensures again { DocumentsAreSpelledAgain }
+    ensures alone { TextsSpellNoOther }
+    ensures taken { TextsAreNotRefused }
+    ensures apart { TextsTellApart }
 {}
