@@ -83,6 +83,11 @@ LinesLead d number (line ∷ lines) outcome =
 abbrev pub Spells : List ℕ → DocumentData → Type 0
 Spells bytes document = IsUtf8 bytes × LinesLead empty 1 (lines_of bytes) (Goes document)
 
+-- some bytes spell the document
+pub record IsSpelled (document : DocumentData) : Type 0 where
+  pub bytes : List ℕ
+  pub spells : Spells bytes document
+
 -- they are not UTF-8 from this byte on, counted from 0; or they are, and their lines lead to the refusal
 abbrev pub IsRefusedAs : List ℕ → TextRefusal → Type 0
 IsRefusedAs bytes (NotUtf8 byte) = IsValidUpTo bytes byte

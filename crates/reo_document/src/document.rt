@@ -3,7 +3,7 @@ ghost use Rattle.std.specs.Prelude.{◌≡◌, ◌≤◌, length, IfOk, IfErr};
 ghost use Rattle.std.specs.List.{filter_map};
 ghost use Rattle.reo_net.specs.Checks.{IsCircuit};
 ghost use Rattle.reo_document.specs.Document.{IsDocument, circuit_of, channel_in, port_in};
-ghost use Rattle.reo_document.specs.Spells.{Spells};
+ghost use Rattle.reo_document.specs.Spells.{Spells, IsSpelled};
 ghost use Rattle.reo_document.specs.Reading.{IsRefusalOf};
 
 use crate::builder::Builder;
@@ -27,7 +27,8 @@ pub struct Document {
 }
 
 impl Model for Document {
-    ghost use Rattle.reo_document.specs.Document.{DocumentData, IsDocument};
+    ghost use Rattle.reo_document.specs.Document.{DocumentData};
+    ghost use Rattle.reo_document.specs.Spells.{IsSpelled};
     ghost use Rattle.reo_guard.specs.contracts.guard.Guard as guard;
     ghost use Rattle.std.specs.Coded.{codes};
 
@@ -37,7 +38,7 @@ impl Model for Document {
 
     ghost view = { λ d. record { lines = d.lines.items; nodes = d.nodes; texts = d.texts; people = d.people; scripts = d.scripts.items } };
 
-    ghost invariant = { λ d. IsDocument (record { lines = d.lines.items; nodes = d.nodes; texts = d.texts; people = d.people; scripts = d.scripts.items }) };
+    ghost invariant = { λ d. IsSpelled (record { lines = d.lines.items; nodes = d.nodes; texts = d.texts; people = d.people; scripts = d.scripts.items }) };
 }
 
 /// The document that the bytes spell, or their one refusal.
@@ -97,6 +98,7 @@ impl Document {
     pub fn scripts(&self) -> &[Items<Op>]
         ensures scripts { result.now ≡ self.now.scripts }
         ensures document { IsDocument self.now }
+        ensures spelled { IsSpelled self.now }
     {
         self.scripts.as_slice()
     }

@@ -20,10 +20,10 @@ use Rattle.reo_document.specs.declared.refusal.TextRefusal.TheVariants.{NumberRa
 use Rattle.reo_document.specs.Document.{DocumentData}
 use Rattle.reo_document.specs.Lines.{lines_of}
 use Rattle.reo_document.specs.Placed.{misplaced, port_number}
-use Rattle.reo_document.specs.Spells.{empty, place_in, Outcome, Goes, Stops, outcome_by, placed, outcome_of, tokens_in, Leads, bad, large, skipped, wrong, says, Then, LinesLead, Spells}
+use Rattle.reo_document.specs.Spells.{empty, place_in, Outcome, Goes, Stops, outcome_by, placed, outcome_of, tokens_in, Leads, bad, large, skipped, wrong, says, Then, LinesLead, Spells, IsSpelled}
 use Rattle.reo_trace.specs.ReportText.{value_text}
 use Rattle.reo_document.proofs.SpellLemmas.{one_document, refused_alone}
-use Rattle.reo_print.specs.Again.{IsSpelled, DocumentsAreSpelledAgain, TextsSpellNoOther, TextsAreNotRefused, TextsTellApart}
+use Rattle.reo_print.specs.Again.{DocumentsAreSpelledAgain, TextsSpellNoOther, TextsAreNotRefused, TextsTellApart}
 use Rattle.reo_print.specs.Canonical.{canonical_text}
 use Rattle.reo_print.specs.Sentences.{said_text}
 use Rattle.reo_print.specs.Trees.{Extends}

@@ -1,14 +1,9 @@
 -- The canonical text of a document spells it again.
-use Rattle.std.specs.Prelude.{◌≡◌, ℕ, List}
+use Rattle.std.specs.Prelude.{◌≡◌}
 use Rattle.reo_document.specs.declared.refusal.TextRefusal.{TextRefusal}
 use Rattle.reo_document.specs.Document.{DocumentData}
-use Rattle.reo_document.specs.Spells.{Spells, IsRefusedAs}
+use Rattle.reo_document.specs.Spells.{Spells, IsSpelled, IsRefusedAs}
 use Rattle.reo_print.specs.Canonical.{canonical_text}
-
--- bytes spell the document
-pub record IsSpelled (document : DocumentData) : Type 0 where
-  pub bytes : List ℕ
-  pub spells : Spells bytes document
 
 -- a document that bytes spell is spelled by its canonical text
 abbrev pub DocumentsAreSpelledAgain : Type 0

@@ -4,7 +4,6 @@ ghost use Rattle.std.specs.List.{filter_map};
 ghost use Rattle.reo_document.specs.Document.{port_in};
 ghost use Rattle.reo_document.specs.Spells.{Spells};
 ghost use Rattle.reo_trace.specs.Passes.{numbered};
-ghost use Rattle.reo_print.specs.Again.{IsSpelled};
 ghost use Rattle.reo_print.specs.Buffer.{Adds};
 ghost use Rattle.reo_print.specs.Canonical.{circuit_line, operation_line, script_lines, canonical_text};
 
@@ -80,7 +79,7 @@ fn push_scripts(
 /// The canonical text of a document.
 pub fn print_document(alloc: Global, document: &Document) -> Result<Vec<u8>, AllocError>
     ensures canonical { IfOk result (λ text. text.items ≡ canonical_text document.now) }
-    ensures again { IsSpelled document.now → IfOk result (λ text. Spells text.items document.now) }
+    ensures again { IfOk result (λ text. Spells text.items document.now) }
 {
     let ports = document.ports(alloc)?;
     let mut text = Vec::new(alloc);

@@ -5,6 +5,7 @@ use Rattle.reo_net.specs.declared.circuit.Port.{Port}
 use Rattle.reo_net.specs.declared.circuit.RawCircuit.{RawCircuit}
 use Rattle.reo_document.specs.Document.{circuit_of, channel_in, port_in}
 use Rattle.reo_net.specs.Checks.{HasKnownNumbers}
+use Rattle.reo_document.proofs.DocumentLemmas.{spelled_document}
 use Rattle.reo_document.proofs.document.Document.circuit.Goals as goal
 
 same_circuit : (n m texts more : ℕ) (cs ds : List Channel) (ps qs : List Port) → n ≡ m → texts ≡ more → cs ≡ ds → ps ≡ qs
@@ -24,5 +25,5 @@ returns-clause-is_circuit c =
     record {
       few_nodes = omega (arith, c.len.ensures.len, c.len.ensures.few);
       few_texts = omega (arith, c.len-2.ensures.len, c.len-2.ensures.few);
-      known = subst HasKnownNumbers (sym is) c.self.invariant.known;
+      known = subst HasKnownNumbers (sym is) (spelled_document c.self.invariant.bytes _ c.self.invariant.spells).known;
     }
