@@ -23,7 +23,7 @@ use Rattle.reo_document.specs.Placed.{misplaced, port_number}
 use Rattle.reo_document.specs.Spells.{empty, place_in, Outcome, Goes, Stops, outcome_by, placed, outcome_of, tokens_in, Leads, bad, large, skipped, wrong, says, Then, LinesLead, Spells, IsSpelled}
 use Rattle.reo_trace.specs.ReportText.{value_text}
 use Rattle.reo_document.proofs.SpellLemmas.{one_document, refused_alone}
-use Rattle.reo_print.specs.Again.{DocumentsAreSpelledAgain, TextsSpellNoOther, TextsAreNotRefused, TextsTellApart}
+use Rattle.reo_print.specs.Again.{DocumentsAreSpelledAgain, TextsSpellNoOther, TextsAreSettled, TextsAreNotRefused, TextsTellApart}
 use Rattle.reo_print.specs.Canonical.{canonical_text}
 use Rattle.reo_print.specs.Sentences.{said_text}
 use Rattle.reo_print.specs.Trees.{Extends}
@@ -184,6 +184,9 @@ spelled_again document is =
 
 pub no_other : TextsSpellNoOther
 no_other one other is spells = one_document (canonical_text one) other one spells (spelled_again one is)
+
+pub settled : TextsAreSettled
+settled one other is spells = ap canonical_text (no_other one other is spells)
 
 pub not_refused : TextsAreNotRefused
 not_refused document refusal is refused = refused_alone (canonical_text document) document refusal (spelled_again document is) refused

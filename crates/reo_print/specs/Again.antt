@@ -13,7 +13,11 @@ DocumentsAreSpelledAgain = (document : DocumentData) → IsSpelled document → 
 abbrev pub TextsSpellNoOther : Type 0
 TextsSpellNoOther = (one other : DocumentData) → IsSpelled one → Spells (canonical_text one) other → other ≡ one
 
--- and is not refused
+-- so a document that is read of it has this text again
+abbrev pub TextsAreSettled : Type 0
+TextsAreSettled = (one other : DocumentData) → IsSpelled one → Spells (canonical_text one) other → canonical_text other ≡ canonical_text one
+
+-- it is not refused
 abbrev pub TextsAreNotRefused : Type 0
 TextsAreNotRefused = (document : DocumentData) (refusal : TextRefusal) → IsSpelled document
     → IsRefusedAs (canonical_text document) refusal → ⊥

@@ -1,6 +1,6 @@
 //! Laws about the definitions, each a function that does nothing.
 ghost use Rattle.reo_print.specs.Laws.{TextsAreCutAgain, TextsAreMeantAgain, NamesAreCutAgain, NamesAreMeantAgain, NumbersAreCutAgain, NumbersAreMeantAgain};
-ghost use Rattle.reo_print.specs.Again.{DocumentsAreSpelledAgain, TextsSpellNoOther, TextsAreNotRefused, TextsTellApart};
+ghost use Rattle.reo_print.specs.Again.{DocumentsAreSpelledAgain, TextsSpellNoOther, TextsAreSettled, TextsAreNotRefused, TextsTellApart};
 ghost use Rattle.reo_print.specs.Sentences.{SentencesAreWritten, SentencesAreReadAgain};
 ghost use Rattle.reo_print.specs.Tokens.{SymbolsAreCutAgain, LinesAreCutAgain};
 ghost use Rattle.reo_print.specs.Trees.{TreesMeanTheGuard, TreesAreShortest, GuardsAreWritten, FunctionsAreWritten};
@@ -55,6 +55,7 @@ pub fn written_lines_are_read_again()
 pub fn written_documents_are_read_again()
     ensures again { DocumentsAreSpelledAgain }
     ensures alone { TextsSpellNoOther }
+    ensures settled { TextsAreSettled }
     ensures taken { TextsAreNotRefused }
     ensures apart { TextsTellApart }
 {}
