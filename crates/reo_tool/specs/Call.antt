@@ -129,10 +129,15 @@ pub data IsNotRun (document : DocumentData) (text : List ℕ) : Type 0 where
   -- they accept it, but it has a region that is too large; the least is told, by its number from 1
   ForRegion : (region count : ℕ) → IsChecked (circuit_of document) → IsLeastTooLarge (circuit_of document) region count → text ≡ region_text (region + 1) count → IsNotRun document text
 
+-- the text is the canonical one, which spells the document again
+pub record IsTextOf (document : DocumentData) (text : List ℕ) : Type 0 where
+  pub canonical : text ≡ canonical_text document
+  pub again : Spells text document
+
 -- what a command answers for a document
 abbrev pub Answers : Command → DocumentData → List ℕ → Status → Type 0
 Answers (Run limit) document text status = IsReportOf limit document text status
-Answers Show document text status = (text ≡ canonical_text document) × (status ≡ Done)
+Answers Show document text status = IsTextOf document text × (status ≡ Done)
 Answers Plan document text status = IsOutlineOf document text × (status ≡ Done)
 
 -- for which documents it answers

@@ -1,5 +1,5 @@
 use Rattle.std.proofs.Common.{sym, subst, ◌∙◌, refl, List, ℕ}
-use Rattle.reo_print.specs.Canonical.{canonical_text}
+use Rattle.reo_document.specs.Spells.{Spells}
 use Rattle.reo_tool.specs.declared.command.Command.TheVariants.{Show}
 use Rattle.reo_tool.specs.declared.status.Status.TheVariants.{Done, Memory}
 use Rattle.reo_tool.specs.FaultText.{out_of_memory_text}
@@ -10,7 +10,7 @@ use Rattle.reo_tool.proofs.call.show_document.Goals as goal
 pub returns-in-Ok : goal.returns-in-Ok
 returns-in-Ok g c =
     writes_out (ForDocument Show c.args.document.now) (sinks_seen g.K.Sink g.E.Sink c.args.out.now c.args.err.now) (sinks_seen g.K.Sink g.E.Sink c.tell.new.sink c.args.err.now) c.as_slice.result.now Done c.tell.result
-    (Answer c.as_slice.result.now Done (c.as_slice.ensures.value ∙ c.in-Ok.ensures.canonical, refl)) c.tell.ensures.told refl
+    (Answer c.as_slice.result.now Done (record { canonical = c.as_slice.ensures.value ∙ c.in-Ok.ensures.canonical; again = subst (λ text. Spells text c.args.document.now) (sym c.as_slice.ensures.value) c.in-Ok.ensures.again }, refl)) c.tell.ensures.told refl
 
 pub returns-in-Err : goal.returns-in-Err
 returns-in-Err g c =
