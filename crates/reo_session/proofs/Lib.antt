@@ -6,3 +6,6 @@ pub mod PostLemmas
 pub mod ProgressLemmas
 pub mod SessionLaw
 pub mod BoardLaw
+pub mod WakeLemmas
+pub mod WatchLemmas
+pub mod TakeLemmas

@@ -1,5 +1,5 @@
 -- Offering the first operation of one component after the other.
-use Rattle.std.proofs.Common.{◌≡◌, ℕ, zero, suc, ◌+◌, ◌<◌, ⊎_elim, List, [], ◌∷◌, length, map, slice_get, set, Option, Some, None, refl, sym, ap, ◌∙◌, subst, arith, length-set}
+use Rattle.std.proofs.Common.{◌≡◌, ℕ, zero, suc, ◌+◌, ◌<◌, ◌≤◌, ⊎_elim, List, [], ◌∷◌, length, map, slice_get, set, Option, Some, None, refl, sym, ap, ◌∙◌, subst, arith, length-set}
 use Rattle.std.proofs.lemmas.Bool.{cases_eq, cases_lt}
 use Rattle.std.proofs.lemmas.Option.{same_Some, slice_get_within, slice_get-get_or}
 use Rattle.reo_value.specs.declared.op.Op.{Op}
@@ -10,9 +10,10 @@ use Rattle.reo_fabric.specs.declared.port_state.PortState.TheVariants.{Idle, Off
 use Rattle.reo_fabric.specs.Engine.{port_at}
 use Rattle.reo_trace.specs.declared.report.Called.{Called}
 use Rattle.reo_schedule.specs.Offers.{offered_by}
-use Rattle.reo_session.specs.Posted.{ScriptsFitFabric, ArePosted, MayPost, with_posted}
+use Rattle.reo_session.specs.Posted.{ScriptsFitFabric, ArePosted, MayPost, waiting_with, with_posted}
+use Rattle.reo_session.specs.Watch.{Knows, KnowsFirst}
 use Rattle.reo_session.specs.Running.{IsPosting}
-use Rattle.reo_session.proofs.CollectLemmas.{port_set_same, port_set_other}
+use Rattle.reo_session.proofs.CollectLemmas.{set_same, set_other, port_set_same, port_set_other}
 
 no_own : (some : List (List Op)) (k : ℕ) (own : List Called) → slice_get (map (λ script. []) some) k ≡ Some own → own ≡ []
 no_own [] k own e = cc
@@ -92,3 +93,30 @@ module _ (scripts : List (List Op)) where
               port_set_other ports (port_of op) port (Offered (offered_by op)) (λ is_there. free i script op (omega arith) of_script e is_there)
               ∙ so_far.idle port (λ k other_script other below of_other first. free k other_script other (omega (arith, below)) of_other first);
         }
+
+    -- and it is known who waits at the first operation's port
+    pub knows_more : (waiting after : List ℕ) → length waiting ≡ length fabric.ports → KnowsFirst scripts i waiting → after ≡ waiting_with waiting i (slice_get script 0) → KnowsFirst scripts (i + 1) after
+    knows_more waiting after long_waiting knows is = subst (KnowsFirst scripts (i + 1)) (sym is) (go (slice_get script 0) refl)
+      where
+        go : (o : Option Op) → slice_get script 0 ≡ o → KnowsFirst scripts (i + 1) (waiting_with waiting i o)
+        go None e k other_script other below of_other first =
+            ⊎_elim
+            (λ same. absurd (let own = same_Some other_script script (sym of_other ∙ ap (slice_get scripts) same ∙ of_script) in let clash : None ≡ Some other = sym e ∙ ap (λ s. slice_get s 0) (sym own) ∙ first in cc))
+            (λ differ. knows k other_script other (⊎_elim (λ less. less) (λ not_less. absurd (differ (omega (arith, below, not_less)))) (cases_lt k i)) of_other first)
+            (cases_eq k i)
+        go (Some op) e k other_script other below of_other first =
+            ⊎_elim
+            (λ same.
+            let own = same_Some other_script script (sym of_other ∙ ap (slice_get scripts) same ∙ of_script) in
+            let is_op = same_Some other op (sym first ∙ ap (λ s. slice_get s 0) own ∙ e) in
+            ap (λ x. slice_get (set waiting (port_of op) i) (port_of x)) is_op ∙ set_same waiting (port_of op) i (omega (arith, first_below op e, long, long_waiting, so_far.ports_long)) ∙ ap Some (sym same))
+            (λ differ.
+            let earlier : k < i = ⊎_elim (λ less. less) (λ not_less. absurd (differ (omega (arith, below, not_less)))) (cases_lt k i) in
+            set_other waiting (port_of op) (port_of other) i (λ same. apart op e k other_script other earlier of_other first (sym same)) ∙ knows k other_script other earlier of_other first)
+            (cases_eq k i)
+
+-- when all first operations are offered
+pub knows_all : (scripts : List (List Op)) (count : ℕ) (waiting : List ℕ) → length scripts ≤ count → KnowsFirst scripts count waiting → Knows scripts (map (λ script. []) scripts) waiting
+knows_all scripts count waiting all knows k op next =
+    let none = no_own scripts k next.own next.of_calls in
+    knows k next.script op (omega (arith, slice_get_within scripts k next.script next.of_script, all)) next.of_script (ap (λ (o : List Called). slice_get next.script (length o)) (sym none) ∙ next.next)

@@ -1,5 +1,5 @@
 -- What an engine that fired is to the schedule.
-use Rattle.std.proofs.Common.{◌≡◌, ℕ, suc, ◌+◌, ◌<◌, ◌⊎◌, inl, inr, ⊎_elim, List, [], ◌∷◌, ◌++◌, length, slice_get, Bool, true, false, cond, Option, Some, None, is_some, refl, sym, ap, ◌∙◌, subst, ext_get_or, arith, length-append, append-nil}
+use Rattle.std.proofs.Common.{◌≡◌, ℕ, suc, ◌+◌, ◌<◌, ◌⊎◌, inl, inr, ⊎_elim, List, [], ◌∷◌, ◌++◌, length, slice_get, Bool, true, false, cond, Option, Some, None, is_some, refl, sym, ap, ◌∙◌, subst, ext_get_or, arith, length-append}
 use Rattle.std.specs.Prelude.{not}
 use Rattle.std.specs.List.{range_with_len}
 use Rattle.std.specs.Option.{option_map, option_to_list}
@@ -42,7 +42,9 @@ use Rattle.reo_session.specs.Plan.{GoesByTables}
 use Rattle.reo_schedule.proofs.QuietLaw.{port_spec}
 use Rattle.reo_session.specs.Posted.{ScriptsFitFabric, IsFree, IsAnswered, ArePosted, AreOpen, call_by, calls_by, collected}
 use Rattle.reo_session.specs.Running.{IsRunning, FiresNext}
-use Rattle.reo_session.specs.Turn.{AnswersNothing}
+use Rattle.reo_session.specs.Watch.{AreAnsweredBy}
+use Rattle.reo_session.proofs.CollectLemmas.{none_answered}
+use Rattle.reo_session.proofs.WatchLemmas.{each_same}
 
 -- the ports after an entry, by the step's data
 datum_state : ℕ → Option Value → PortState → PortState
@@ -145,44 +147,6 @@ same_calls step number answers (script ∷ scripts) (own ∷ calls) each =
     go None e = refl
     go (Some op) e = ap option_to_list (each 0 op (record { script = script; own = own; of_script = refl; of_calls = refl; next = e }))
 
--- where the next operations are offered, no answer is there to take
-nothing_taken : (ports : List PortState) (scripts : List (List Op)) (calls : List (List Called)) → length scripts ≡ length calls → ((k : ℕ) (op : Op) → IsNextOf scripts calls k op → call_by ports op ≡ None) → calls ≡ collected scripts ports calls
-nothing_taken ports [] [] count each = refl
-nothing_taken ports [] (own ∷ calls) count each = absurd (omega (arith, count))
-nothing_taken ports (script ∷ scripts) [] count each = absurd (omega (arith, count))
-nothing_taken ports (script ∷ scripts) (own ∷ calls) count each =
-    ap (λ cs. own ∷ cs)
-    (nothing_taken ports scripts calls (omega (arith, count)) (λ k op next. each (suc k) op (record { script = next.script; own = next.own; of_script = next.of_script; of_calls = next.of_calls; next = next.next })))
-    ∙ ap (λ xs. xs ∷ collected scripts ports calls) (sym (append-nil own) ∙ ap (λ xs. own ++ xs) (sym (go (slice_get script (length own)) refl)))
-  where
-    go : (o : Option Op) → slice_get script (length own) ≡ o → calls_by ports o ≡ []
-    go None e = refl
-    go (Some op) e = ap option_to_list (each 0 op (record { script = script; own = own; of_script = refl; of_calls = refl; next = e }))
-
-pub nothing_to_collect : (ports : List PortState) (scripts : List (List Op)) (calls : List (List Called)) → length calls ≡ length scripts → ArePosted scripts calls ports → calls ≡ collected scripts ports calls
-nothing_to_collect ports scripts calls count posted =
-    nothing_taken ports scripts calls (sym count)
-    (λ k op next.
-    let from_answer : (Value × ℕ) → Called = λ answer. record { op = op; value = answer.0; number = answer.1 } in
-    ap (λ s. option_map from_answer (answer_of s)) (posted.posted k op next))
-
--- an entry that puts and gets nothing leaves the ports
-module _ (ports : List PortState) (number : ℕ) (entry : Entry) (nothing : AnswersNothing entry) where
-  then_at : ℕ → PortState
-  then_at port = port_after number (at_place entry.puts port) (at_place entry.gets port) (port_at ports port)
-
-  port_stays : (p : ℕ) → port_at (answered ports number entry) p ≡ port_at ports p
-  unfolding then_at
-  port_stays p =
-      ⊎_elim
-      (λ below.
-      get_or-map then_at (range_with_len 0 (length ports)) p 0 Idle (omega (arith, below, length-range_with_len 0 (length ports)))
-      ∙ ap then_at (get_or-range_with_len 0 (length ports) p 0 below ∙ (let e : 0 + p ≡ p = omega arith in e))
-      ∙ ap (λ l. port_after number (at_place l p) (at_place entry.gets p) (port_at ports p)) nothing.puts
-      ∙ ap (λ l. port_after number None (at_place l p) (port_at ports p)) nothing.gets)
-      (λ past. get_or_past (answered ports number entry) p Idle (omega (arith, past, length-map (range_with_len 0 (length ports)) then_at, length-range_with_len 0 (length ports))) ∙ sym (get_or_past ports p Idle past))
-      (cases_lt p (length ports))
-
 module _ (c : RawCircuit) (checked : IsChecked c) (texts : List (List ℕ)) (scripts : List (List Op)) (fit : ScriptsFit c scripts) (put : ScriptsPutValues scripts) (fabric : Fabric) (tables : List Table) (board : IsBoard c fabric tables) (limit : ℕ)
     {D : Type 0} (decider : D) (allows : ℕ → Reading → Entry → Type 0) (first_choice : ℕ → Reading → Option ℕ) (may_step : Entry → Type 0) (has_step : Entry → Step → Type 0) (by_tables : GoesByTables c texts tables allows first_choice may_step has_step)
     (engine : EngineState D) (steps : List Step) (calls : List (List Called)) (place : ℕ) (running : IsRunning c texts scripts fabric tables limit decider engine steps calls place) where
@@ -259,12 +223,17 @@ module _ (c : RawCircuit) (checked : IsChecked c) (texts : List (List ℕ)) (scr
         subst (AreOpen scripts calls) (sym ports_fired)
         (open_after c texts scripts fit calls engine.ports running.ports_long running.posted allowed.names entry step is_step engine.count offered_then)
 
-    -- and where none is, all stay offered
-    pub posted_fired : AnswersNothing entry → ArePosted scripts calls fired.ports
-    posted_fired nothing = record {
-      posted = λ k op is_next. ap (λ ps. port_at ps (port_of op)) ports_fired ∙ port_stays engine.ports engine.count entry nothing (port_of op) ∙ running.posted.posted k op is_next;
-      idle = λ p free. ap (λ ps. port_at ps p) ports_fired ∙ port_stays engine.ports engine.count entry nothing p ∙ running.posted.idle p free;
-    }
+    -- and no others
+    pub answered_fired : AreAnsweredBy entry fired.ports
+    answered_fired port no_put no_get answered =
+        none_answered scripts calls engine.ports running.posted port
+        (record {
+          value = answered.value;
+          number = answered.number;
+          at = sym (each_same (λ p. port_after engine.count (at_place entry.puts p) (at_place entry.gets p) (port_at engine.ports p)) engine.ports port Idle
+              (ap (λ o. port_after engine.count o (at_place entry.gets port) (port_at engine.ports port)) no_put ∙ ap (λ o. port_after engine.count None o (port_at engine.ports port)) no_get))
+              ∙ sym (ap (λ ps. port_at ps port) ports_fired) ∙ answered.at;
+        })
 
     pub fabric_fired : fired.fabric ≡ fabric
     fabric_fired = ap (λ (e : EngineState D). e.fabric) next.fires.after ∙ running.fabric_is

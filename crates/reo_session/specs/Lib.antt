@@ -4,3 +4,4 @@ pub mod Turn
 pub mod Plan
 pub mod Running
 pub mod Session
+pub mod Watch

@@ -1,5 +1,5 @@
 -- What stands at the ports of an engine, of the components' operations.
-use Rattle.std.specs.Prelude.{◌≡◌, ℕ, ◌<◌, ◌≤◌, ◌⊎◌, List, [], ◌∷◌, ◌++◌, length, slice_get, slice_set, Option, Some, None}
+use Rattle.std.specs.Prelude.{◌≡◌, ℕ, ◌<◌, ◌⊎◌, List, [], ◌∷◌, ◌++◌, length, slice_get, slice_set, Option, Some, None}
 use Rattle.std.specs.Option.{option_map, option_to_list}
 use Rattle.reo_value.specs.declared.value.Value.{Value}
 use Rattle.reo_value.specs.declared.op.Op.{Op}
@@ -84,12 +84,25 @@ pub record MayCollect (fabric : Fabric) (ports : List PortState) (next behind : 
   pub within : (op : Op) → next ≡ Some op → port_of op < length ports
   pub then_posts : (op other : Op) → next ≡ Some op → behind ≡ Some other → MayPost fabric (slice_set ports (port_of op) Idle) other
 
--- the answers of the first components, so many, were collected
-pub record IsCollecting (scripts : List (List Op)) (was_ports : List PortState) (was : List (List Called)) (count : ℕ) (ports : List PortState) (calls : List (List Called)) : Type 0 where
+-- some answers were collected, and those that stand still make the calls that all made before
+pub record IsCollected (scripts : List (List Op)) (was_ports : List PortState) (was : List (List Called)) (ports : List PortState) (calls : List (List Called)) : Type 0 where
   pub as_many : length calls ≡ length was
   pub ports_long : length ports ≡ length was_ports
-  pub done : (k : ℕ) → k < count → slice_get calls k ≡ slice_get (collected scripts was_ports was) k
-  pub rest : (k : ℕ) → count ≤ k → slice_get calls k ≡ slice_get was k
-  pub posted : (k : ℕ) (op : Op) → k < count → IsNextOf scripts calls k op → port_at ports (port_of op) ≡ Offered (offered_by op)
-  pub waiting : (k : ℕ) (op : Op) → count ≤ k → IsNextOf scripts calls k op → port_at ports (port_of op) ≡ port_at was_ports (port_of op)
-  pub idle : (port : ℕ) → IsFree scripts calls port → port_at ports port ≡ Idle
+  pub are_open : AreOpen scripts calls ports
+  pub same : collected scripts ports calls ≡ collected scripts was_ports was
+  pub fewer : (port : ℕ) → IsAnswered ports port → IsAnswered was_ports port
+
+-- who waits at each port, when the operation is offered
+abbrev pub waiting_with : List ℕ → ℕ → Option Op → List ℕ
+waiting_with waiting component None = waiting
+waiting_with waiting component (Some op) = slice_set waiting (port_of op) component
+
+-- when the answer to an operation is taken and the next is offered, where there was one
+abbrev pub waiting_after : List ℕ → ℕ → Option Op → Option (Value × ℕ) → List ℕ
+waiting_after waiting component behind None = waiting
+waiting_after waiting component behind (Some answer) = waiting_with waiting component behind
+
+-- of a component whose next operation is this, and the one behind it that
+abbrev pub waiting_own : List PortState → List ℕ → ℕ → Option Op → Option Op → List ℕ
+waiting_own ports waiting component None behind = waiting
+waiting_own ports waiting component (Some op) behind = waiting_after waiting component behind (answer_of (port_at ports (port_of op)))

@@ -1,5 +1,5 @@
 -- Which regions of an engine fire.
-use Rattle.std.specs.Prelude.{◌≡◌, ℕ, ◌<◌, ◌≤◌, [], Option, None}
+use Rattle.std.specs.Prelude.{◌≡◌, ℕ, ◌<◌, ◌≤◌, Option, None}
 use Rattle.reo_fabric.specs.declared.entry.Entry.{Entry}
 use Rattle.reo_fabric.specs.declared.reading.Reading.{Reading}
 use Rattle.reo_fabric.specs.Engine.{EngineState, engine_reading, Fires}
@@ -7,11 +7,6 @@ use Rattle.reo_fabric.specs.Engine.{EngineState, engine_reading, Fires}
 -- no region from one number up to another has a choice
 abbrev pub AreQuiet : {D : Type 0} → (ℕ → Reading → Option ℕ) → EngineState D → ℕ → ℕ → Type 0
 AreQuiet first_choice engine from to = (region : ℕ) → from ≤ region → region < to → first_choice region (engine_reading engine region) ≡ None
-
--- the entry puts and gets nothing
-pub record AnswersNothing (entry : Entry) : Type 0 where
-  pub puts : entry.puts ≡ []
-  pub gets : entry.gets ≡ []
 
 -- the region fires, and none from one number up to it has a choice
 pub record FiresFirst {D : Type 0} (Allows : ℕ → Reading → Entry → Type 0) (first_choice : ℕ → Reading → Option ℕ) (old new : EngineState D) (from region : ℕ) : Type 0 where

@@ -8,6 +8,7 @@ mod schedule;
 mod session;
 mod steps;
 mod turn;
+mod watch;
 
 pub use preparation::{Prepared, SessionRefusal, prepare};
 pub use session::{plain_session, session_by};

@@ -10,11 +10,13 @@ ghost use Rattle.reo_schedule.specs.Plain.{IsPlainReport};
 ghost use Rattle.reo_session.specs.Turn.{AreQuiet};
 ghost use Rattle.reo_session.specs.Running.{IsRunning, same_lengths};
 ghost use Rattle.reo_session.specs.Session.{IsSet, firings_of};
+ghost use Rattle.reo_session.specs.Watch.{IsWatching};
 
 use crate::collect::{collect, post_first};
 use crate::progress::{Progress, all_answered, no_calls};
 use crate::steps::Stepper;
 use crate::turn::{fire_next, keep_step};
+use crate::watch::Watch;
 use reo_fabric::{Fabric, PlainEngine};
 use reo_net::Net;
 use reo_product::RegionTable;
@@ -37,6 +39,7 @@ pub(crate) struct Board<'a> {
 /// the place behind it, or `None` where none can.
 fn turn<P: Stepper>(
     engine: &mut PlainEngine<&P>,
+    watch: &mut Watch,
     progress: &mut Progress,
     alloc: Global,
     board: Board<'_>,
@@ -50,25 +53,29 @@ fn turn<P: Stepper>(
     requires few { engine.old.count < 2 ^ 63 }
     requires left { AllAnswered board.scripts.now progress.old.calls.items → ⊥ }
     requires below { length progress.old.steps.items < board.limit }
+    requires watching { IsWatching (P.first_choice plan.now) board.scripts.now engine.old watch.old progress.old.calls.items }
     requires running { IsRunning board.net.now board.texts.now board.scripts.now engine.old.fabric (firings_of board.tables.now) board.limit engine.old.decider engine.old progress.old.steps.items progress.old.calls.items place }
     ensures running { IfOk result (λ next. IfSome next (IsRunning board.entry.net.now board.entry.texts.now board.entry.scripts.now engine.old.fabric (firings_of board.entry.tables.now) board.entry.limit engine.old.decider engine.new progress.new.steps.items progress.new.calls.items)) }
+    ensures watching { IfOk result (λ next. IfSome next (λ _. IsWatching (P.first_choice plan.now) board.entry.scripts.now engine.new watch.new progress.new.calls.items)) }
     ensures one_step { IfOk result (λ next. IfSome next (λ _. length progress.new.steps.items ≡ length progress.old.steps.items + 1)) }
     ensures quiet { IfOk result (λ next. IfNone next (AreQuiet (P.first_choice plan.now) engine.new 0 regions)) }
     ensures same_engine { IfOk result (λ next. IfNone next (engine.new ≡ engine.old)) }
     ensures same_steps { IfOk result (λ next. IfNone next (progress.new.steps.items ≡ progress.old.steps.items)) }
     ensures same_calls { IfOk result (λ next. IfNone next (progress.new.calls.items ≡ progress.old.calls.items)) }
 {
-    let Some(region) = fire_next(engine, regions, place) else {
+    let Some(region) = fire_next(engine, &mut watch.awake, regions, place) else {
         return Ok(None);
     };
-    let answers = keep_step(alloc, engine, plan, &mut progress.steps)?;
-    collect(engine, &mut progress.calls, board.scripts, answers)?;
+    let entry = keep_step(alloc, engine, plan, &mut progress.steps)?;
+    watch.wake_for(&entry);
+    collect(engine, watch, &mut progress.calls, board.scripts, &entry)?;
     Ok(Some(region + 1))
 }
 
 /// Goes on until every operation is answered, no region can fire, or the steps are as many as the limit.
 fn run_on<P: Stepper>(
     engine: &mut PlainEngine<&P>,
+    watch: &mut Watch,
     progress: &mut Progress,
     alloc: Global,
     board: Board<'_>,
@@ -81,6 +88,7 @@ fn run_on<P: Stepper>(
     requires some { 1 ≤ board.limit }
     requires few { board.limit ≤ 2 ^ 63 }
     requires first { length progress.old.steps.items ≡ 0 }
+    requires watching { IsWatching (P.first_choice plan.now) board.scripts.now engine.old watch.old progress.old.calls.items }
     requires running { IsRunning board.net.now board.texts.now board.scripts.now engine.old.fabric (firings_of board.tables.now) board.limit engine.old.decider engine.old progress.old.steps.items progress.old.calls.items 0 }
     ensures plain { IfOk result (λ ending. IsPlainReport board.entry.net.now board.entry.texts.now board.entry.scripts.now board.entry.limit (record { steps = progress.new.steps.items; calls = progress.new.calls.items; ending = ending })) }
 {
@@ -90,7 +98,7 @@ fn run_on<P: Stepper>(
         if all_answered(board.scripts, &progress.calls, &mut waiting) {
             return Ok(Ending::Done);
         }
-        match turn(engine, progress, alloc, board, plan, regions, place)? {
+        match turn(engine, watch, progress, alloc, board, plan, regions, place)? {
             Some(next) => place = next,
             None => return Ok(Ending::Stuck),
         }
@@ -118,13 +126,22 @@ pub(crate) fn run<P: Stepper>(
     ensures plain { IfOk result (IsPlainReport board.entry.net.now board.entry.texts.now board.entry.scripts.now board.entry.limit) }
 {
     let regions = fabric.regions;
+    let mut watch = Watch::new(alloc, &fabric)?;
     let mut engine = PlainEngine::start(alloc, fabric, plan)?;
-    post_first(&mut engine, board.scripts);
+    post_first(&mut engine, &mut watch, board.scripts);
     let mut progress = Progress {
         steps: Vec::new(alloc),
         calls: no_calls(alloc, board.scripts)?,
     };
-    let ending = run_on(&mut engine, &mut progress, alloc, board, plan, regions)?;
+    let ending = run_on(
+        &mut engine,
+        &mut watch,
+        &mut progress,
+        alloc,
+        board,
+        plan,
+        regions,
+    )?;
     let Progress { steps, calls } = progress;
     Ok(Report {
         steps: Items::from_vec(steps),

@@ -1,27 +1,65 @@
 //! The next turn of the plain schedule.
-ghost use Rattle.std.specs.Prelude.{◌≡◌, ℕ, ◌<◌, ◌≤◌, ◌^◌, ◌∷◌, [], ◌++◌, None, Some, IfSome, IfNone, IfOk, OnOk, false};
+ghost use Rattle.std.specs.Prelude.{◌≡◌, ℕ, ◌<◌, ◌≤◌, ◌^◌, ◌∷◌, [], ◌++◌, length, None, Some, IfSome, IfNone, IfOk, OnOk, true, false};
 ghost use Rattle.reo_net.specs.declared.circuit.Step.{Step as AnyStep};
 ghost use Rattle.reo_fabric.specs.declared.entry.Entry.{Entry as AnyEntry};
-ghost use Rattle.reo_session.specs.Turn.{FiresFirst, AreQuiet, AnswersNothing};
+ghost use Rattle.reo_fabric.specs.Engine.{Fires, engine_reading};
+ghost use Rattle.reo_session.specs.Turn.{FiresFirst, AreQuiet};
 ghost use Rattle.reo_session.specs.Running.{FiresNext};
+ghost use Rattle.reo_session.specs.Watch.{AsleepAreQuiet};
 
 use crate::steps::Stepper;
+use crate::watch::skip_asleep;
 use reo_fabric::{Decider, Entry, PlainEngine};
 use reo_net::Step;
 use std::alloc::{AllocError, Global};
 
-/// The first region from one number up to another that can fire fires.
-fn fire_between<D: Decider + Drop>(engine: &mut PlainEngine<D>, from: u32, to: u32) -> Option<u32>
-    requires to { to ≤ engine.old.fabric.regions }
+/// A region fires, where it can; else it is asleep from now on.
+fn try_region<D: Decider + Drop>(
+    engine: &mut PlainEngine<D>,
+    awake: &mut Vec<bool>,
+    region: u32,
+) -> bool
+    requires region { region < engine.old.fabric.regions }
+    requires awake { length awake.old.items ≡ engine.old.fabric.regions }
     requires few { engine.old.count < 2 ^ 63 }
+    requires asleep { AsleepAreQuiet (D.first_choice engine.old.decider) engine.old awake.old.items }
+    ensures quiet { result ≡ false → engine.new ≡ engine.old }
+    ensures none { result ≡ false → D.first_choice engine.old.decider region (engine_reading engine.old region) ≡ None }
+    ensures fires { result ≡ true → (number : ℕ) × Fires (D.allows engine.old.decider) (D.first_choice engine.old.decider) region engine.old engine.new number }
+    ensures long { length awake.new.items ≡ length awake.old.items }
+    ensures asleep { AsleepAreQuiet (D.first_choice engine.old.decider) engine.old awake.new.items }
+{
+    let fires = engine.step(region).is_some();
+    if !fires {
+        awake[region as usize] = false;
+    }
+    fires
+}
+
+/// The first region from one number up to another that can fire fires.
+fn fire_between<D: Decider + Drop>(
+    engine: &mut PlainEngine<D>,
+    awake: &mut Vec<bool>,
+    from: u32,
+    to: u32,
+) -> Option<u32>
+    requires from { from ≤ to }
+    requires to { to ≤ engine.old.fabric.regions }
+    requires awake { length awake.old.items ≡ engine.old.fabric.regions }
+    requires few { engine.old.count < 2 ^ 63 }
+    requires asleep { AsleepAreQuiet (D.first_choice engine.old.decider) engine.old awake.old.items }
     ensures quiet { IfNone result (engine.new ≡ engine.old) }
     ensures none { IfNone result (AreQuiet (D.first_choice engine.old.decider) engine.old from to) }
     ensures fires { IfSome result (λ region. (region < to) × FiresFirst (D.allows engine.old.decider) (D.first_choice engine.old.decider) engine.old engine.new from region) }
+    ensures long { length awake.new.items ≡ length awake.old.items }
+    ensures asleep { AsleepAreQuiet (D.first_choice engine.old.decider) engine.old awake.new.items }
 {
-    for region in from..to {
-        if engine.step(region).is_some() {
+    let mut region = skip_asleep(awake, from, to);
+    while region < to {
+        if try_region(engine, awake, region) {
             return Some(region);
         }
+        region = skip_asleep(awake, region + 1, to);
     }
     None
 }
@@ -29,49 +67,41 @@ fn fire_between<D: Decider + Drop>(engine: &mut PlainEngine<D>, from: u32, to: u
 /// The first region that can fire, in cyclic order from a place on, fires.
 pub(crate) fn fire_next<D: Decider + Drop>(
     engine: &mut PlainEngine<D>,
+    awake: &mut Vec<bool>,
     regions: u32,
     place: u32,
 ) -> Option<u32>
     requires regions { regions ≡ engine.old.fabric.regions }
     requires place { place ≤ regions }
+    requires awake { length awake.old.items ≡ engine.old.fabric.regions }
     requires few { engine.old.count < 2 ^ 63 }
+    requires asleep { AsleepAreQuiet (D.first_choice engine.old.decider) engine.old awake.old.items }
     ensures quiet { IfNone result (engine.new ≡ engine.old) }
     ensures none { IfNone result (AreQuiet (D.first_choice engine.old.decider) engine.old 0 engine.old.fabric.regions) }
     ensures fires { IfSome result (FiresNext (D.allows engine.old.decider) (D.first_choice engine.old.decider) engine.old engine.new place) }
+    ensures long { length awake.new.items ≡ length awake.old.items }
+    ensures asleep { AsleepAreQuiet (D.first_choice engine.old.decider) engine.old awake.new.items }
 {
-    if let Some(region) = fire_between(engine, place, regions) {
+    if let Some(region) = fire_between(engine, awake, place, regions) {
         return Some(region);
     }
-    fire_between(engine, 0, place)
+    fire_between(engine, awake, 0, place)
 }
 
-/// Whether a port is answered where this entry is carried out.
-fn answers_something(entry: &Entry) -> bool
-    ensures { result ≡ false → AnswersNothing entry.now }
-{
-    if entry.puts.is_empty() {
-        !entry.gets.is_empty()
-    } else {
-        true
-    }
-}
-
-/// Keeps the step of the engine's last entry, and tells whether the entry answers something.
+/// Keeps the step of the engine's last entry, and tells the entry.
 pub(crate) fn keep_step<P: Stepper>(
     alloc: Global,
     engine: &PlainEngine<&P>,
     plan: &P,
     steps: &mut Vec<Step>,
-) -> Result<bool, AllocError>
+) -> Result<Entry, AllocError>
     requires last { (entry : AnyEntry) × (engine.now.last ≡ Some entry) × P.may_step plan.now entry }
     ensures step { OnOk result ((entry : AnyEntry) → engine.now.last ≡ Some entry → (step : AnyStep) × (steps.new.items ≡ steps.old.items ++ step ∷ []) × P.has_step plan.now entry step) }
-    ensures answers { IfOk result (λ answers. answers ≡ false → (entry : AnyEntry) → engine.now.last ≡ Some entry → AnswersNothing entry) }
+    ensures entry { IfOk result (λ entry. engine.now.last ≡ Some entry) }
 {
-    let Some(last) = engine.last() else {
-        return Ok(false);
-    };
+    let last = engine.last().unwrap();
     let entry = last.to_entry(alloc)?;
     let step = plan.step_of(alloc, &entry)?;
     steps.push(step)?;
-    Ok(answers_something(&entry))
+    Ok(entry)
 }

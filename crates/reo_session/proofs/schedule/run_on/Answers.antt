@@ -53,6 +53,7 @@ loop-turn-preserved g c =
     let one_step = rw c.in-Some.is at c.in_ok-next.ensures.one_step in
     record {
       running = from_engine b.net.now b.texts.now b.scripts.now e.fabric (firings_of b.tables.now) b.limit e.decider c.loop-turn.engine c.turn.new.engine c.turn.new.progress.steps.items c.turn.new.progress.calls.items c.in-Some.next r.fabric_is r.decider_is running;
+      watching = rw c.in-Some.is at c.in_ok-next.ensures.watching;
       counted = one_step ∙ ap (λ n. n + 1) c.loop-turn.invariant.counted;
     }
 
