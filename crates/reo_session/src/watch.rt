@@ -120,6 +120,13 @@ fn none_awake(marks: &[bool]) -> bool
     none
 }
 
+fn is_awake(awake: &[bool], region: u32) -> bool {
+    match awake.get(region as usize) {
+        Some(mark) => *mark,
+        None => false,
+    }
+}
+
 /// A later region before which all from the first on are asleep.
 fn leap_asleep(awake: &[bool], from: u32, to: u32) -> u32
     requires from { from ≤ to }
@@ -146,6 +153,9 @@ pub(crate) fn skip_asleep(awake: &[bool], from: u32, to: u32) -> u32
     ensures within { result ≤ to }
     ensures asleep { AreAsleep awake.now from result }
 {
+    if is_awake(awake, from) {
+        return from;
+    }
     let mut region = leap_asleep(awake, from, to);
     while region < to {
         if awake[region as usize] {
