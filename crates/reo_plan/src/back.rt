@@ -8,7 +8,7 @@ ghost use Rattle.reo_plan.specs.inside.Sides.{one_place};
 ghost use Rattle.reo_plan.specs.inside.Back.{words_with, words_without, offers_with, offers_without, reading_back};
 
 use crate::evaluate::slot_value;
-use reo_fabric::{Entry, Reading};
+use reo_fabric::{EntryRef, Reading};
 use reo_flow::Giver;
 use reo_net::Net;
 use reo_value::{Lexicon, Value, word_of};
@@ -58,17 +58,17 @@ fn add_gets(words: &mut Items<(u32, u64, u64)>, places: &[(u32, Value)]) -> Resu
 }
 
 /// A reading that shows what the entry was made from.
-pub(crate) fn reading_back(alloc: Global, entry: &Entry) -> Result<Reading, AllocError>
+pub(crate) fn reading_back(alloc: Global, entry: &EntryRef<'_>) -> Result<Reading, AllocError>
     ensures { IfOk result (λ reading. reading ≡ reading_back entry.now) }
 {
     let mut cells = Items::new(alloc);
-    add_full(&mut cells, entry.takes.as_slice())?;
-    add_empty(&mut cells, entry.fills.as_slice())?;
+    add_full(&mut cells, entry.takes())?;
+    add_empty(&mut cells, entry.fills())?;
     let mut ports = Items::new(alloc);
-    add_puts(&mut ports, entry.puts.as_slice())?;
-    add_gets(&mut ports, entry.gets.as_slice())?;
+    add_puts(&mut ports, entry.puts())?;
+    add_gets(&mut ports, entry.gets())?;
     Ok(Reading {
-        region: entry.region,
+        region: entry.region(),
         round: 0,
         clock: 0,
         cells,

@@ -19,7 +19,7 @@ use crate::givers::cell_numbers;
 use crate::row::Row;
 use crate::write::write_row;
 use reo_cut::Cut;
-use reo_fabric::{Choice, Decider, Entry, Reading, Room};
+use reo_fabric::{Choice, Decider, EntryRef, Reading, Room};
 use reo_net::{Net, Step};
 use reo_product::RegionTable;
 use reo_value::Lexicon;
@@ -105,14 +105,14 @@ impl<'a> Decider for Plan<'a> {
 
 impl<'a> Plan<'a> {
     /// The step of an entry that some reading allowed.
-    pub fn step_of(&self, alloc: Global, entry: &Entry) -> Result<Step, AllocError>
+    pub fn step_of(&self, alloc: Global, entry: &EntryRef<'_>) -> Result<Step, AllocError>
         requires allowed { (reading : AnyReading) × Allows self.now.circuit self.now.texts self.now.tables entry.now.region reading entry.now }
         ensures step { IfOk result (λ step. (reading : AnyReading) (allowed : Allows self.now.circuit self.now.texts self.now.tables entry.now.region reading entry.now) → step ≡ allowed.step) }
     {
         let _nodes = self.net.nodes();
         let reading = reading_back(alloc, entry)?;
-        let rows = self.plans.as_slice()[entry.region as usize].as_slice();
-        let row = &rows[entry.choice as usize];
+        let rows = self.plans.as_slice()[entry.region() as usize].as_slice();
+        let row = &rows[entry.choice() as usize];
         let slots = row.slots.as_slice();
         let named = row.named.as_slice();
         let pairs = pairs_of(alloc, self.net, self.texts, &reading, slots, named)?;

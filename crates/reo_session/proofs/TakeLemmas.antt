@@ -15,7 +15,7 @@ use Rattle.reo_fabric.proofs.PlaceLemmas.{at_place_holds}
 use Rattle.reo_trace.specs.declared.report.Called.{Called}
 use Rattle.reo_session.specs.declared.watch.Watch.{Watch}
 use Rattle.reo_session.specs.Posted.{AreOpen, ArePosted, IsAnswered, IsFree, ScriptsFitFabric, WithPorts, after_own, calls_by, collected, waiting_own, MayCollect}
-use Rattle.reo_session.specs.Watch.{AreAnsweredBy, AsleepAreQuiet, HasPlacesOf, IsWatch, IsWatching, KeepsAsleep, Knows, MayTake, TakesAnswers, WakesFor}
+use Rattle.reo_session.specs.Watch.{AreAnsweredAt, AsleepAreQuiet, HasPlacesOf, IsWatch, IsWatching, KeepsAsleep, Knows, MayTake, TakesAnswers, WakesFor}
 use Rattle.reo_session.proofs.CollectLemmas.{OneCollected, collected_none, collected_more, may_collect, collect_one, all_posted, nothing_to_collect}
 use Rattle.reo_session.proofs.WakeLemmas.{all_one}
 use Rattle.reo_session.proofs.WatchLemmas.{still_watch, same_places, more_places, quiet_then}
@@ -105,22 +105,22 @@ module _ {D : Type 0} (scripts : List (List Op)) where
             let clash : Idle ≡ Answered before.value before.number = sym (may.are_open.idle port free) ∙ before.at in cc
 
 -- where the answers at all places of an entry are taken, none is left
-pub none_left : {D : Type 0} (scripts : List (List Op)) (entry : Entry) (old middle new : EngineState D) (was between watch : Watch) (calls some later : List (List Called)) → AreAnsweredBy entry old.ports
-    → TakesAnswers scripts old was calls middle between some → All (λ place. IsAnswered middle.ports place.0 → ⊥) entry.puts
-    → TakesAnswers scripts middle between some new watch later → All (λ place. IsAnswered new.ports place.0 → ⊥) entry.gets
+pub none_left : {D : Type 0} (scripts : List (List Op)) (its_puts its_gets : List (ℕ × Value)) (old middle new : EngineState D) (was between watch : Watch) (calls some later : List (List Called)) → AreAnsweredAt its_puts its_gets old.ports
+    → TakesAnswers scripts old was calls middle between some → All (λ place. IsAnswered middle.ports place.0 → ⊥) its_puts
+    → TakesAnswers scripts middle between some new watch later → All (λ place. IsAnswered new.ports place.0 → ⊥) its_gets
     → (port : ℕ) → IsAnswered new.ports port → ⊥
-none_left scripts entry old middle new was between watch calls some later by_entry first puts second gets port answered = by_put (at_place entry.puts port) refl
+none_left scripts its_puts its_gets old middle new was between watch calls some later by_entry first puts second gets port answered = by_put (at_place its_puts port) refl
   where
     before : IsAnswered middle.ports port
     before = second.collected.fewer port answered
 
-    by_get : at_place entry.puts port ≡ None → (o : Option Value) → at_place entry.gets port ≡ o → ⊥
+    by_get : at_place its_puts port ≡ None → (o : Option Value) → at_place its_gets port ≡ o → ⊥
     by_get no_put None no_get = by_entry port no_put no_get (first.collected.fewer port before)
-    by_get no_put (Some value) is = at_place_holds (λ place. IsAnswered new.ports place.0 → ⊥) entry.gets port value gets is answered
+    by_get no_put (Some value) is = at_place_holds (λ place. IsAnswered new.ports place.0 → ⊥) its_gets port value gets is answered
 
-    by_put : (o : Option Value) → at_place entry.puts port ≡ o → ⊥
-    by_put None no_put = by_get no_put (at_place entry.gets port) refl
-    by_put (Some value) is = at_place_holds (λ place. IsAnswered middle.ports place.0 → ⊥) entry.puts port value puts is before
+    by_put : (o : Option Value) → at_place its_puts port ≡ o → ⊥
+    by_put None no_put = by_get no_put (at_place its_gets port) refl
+    by_put (Some value) is = at_place_holds (λ place. IsAnswered middle.ports place.0 → ⊥) its_puts port value puts is before
 
 -- when an entry was carried out, and the regions of its places woken
 pub may_then : {D : Type 0} (scripts : List (List Op)) (old fired : EngineState D) (was woken : Watch) (entry : Entry) (calls : List (List Called)) → fired.fabric ≡ old.fabric → ScriptsFitFabric old.fabric scripts
@@ -159,11 +159,11 @@ clears_more scripts old new was watch calls later places i d within before takes
     (All-append P (take i places) (get_or places i d ∷ []) (λ k other below answered. before k other below (takes.collected.fewer _ answered)) (all_one P (get_or places i d) cleared))
 
 -- all were
-module _ {D : Type 0} (scripts : List (List Op)) (entry : Entry) (old middle new : EngineState D) (was between watch : Watch) (calls some later : List (List Called)) (may : MayTake scripts old was calls)
-    (by_entry : AreAnsweredBy entry old.ports) (first : TakesAnswers scripts old was calls middle between some) (puts : All (λ place. IsAnswered middle.ports place.0 → ⊥) entry.puts)
-    (second : TakesAnswers scripts middle between some new watch later) (gets : All (λ place. IsAnswered new.ports place.0 → ⊥) entry.gets) where
+module _ {D : Type 0} (scripts : List (List Op)) (its_puts its_gets : List (ℕ × Value)) (old middle new : EngineState D) (was between watch : Watch) (calls some later : List (List Called)) (may : MayTake scripts old was calls)
+    (by_entry : AreAnsweredAt its_puts its_gets old.ports) (first : TakesAnswers scripts old was calls middle between some) (puts : All (λ place. IsAnswered middle.ports place.0 → ⊥) its_puts)
+    (second : TakesAnswers scripts middle between some new watch later) (gets : All (λ place. IsAnswered new.ports place.0 → ⊥) its_gets) where
   pub posted_then : ArePosted scripts later new.ports
-  posted_then = all_posted scripts later new.ports second.collected.are_open (none_left scripts entry old middle new was between watch calls some later by_entry first puts second gets)
+  posted_then = all_posted scripts later new.ports second.collected.are_open (none_left scripts its_puts its_gets old middle new was between watch calls some later by_entry first puts second gets)
 
   pub calls_then : later ≡ collected scripts old.ports calls
   calls_then =

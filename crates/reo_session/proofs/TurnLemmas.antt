@@ -42,7 +42,7 @@ use Rattle.reo_session.specs.Plan.{GoesByTables}
 use Rattle.reo_schedule.proofs.QuietLaw.{port_spec}
 use Rattle.reo_session.specs.Posted.{ScriptsFitFabric, IsFree, IsAnswered, ArePosted, AreOpen, call_by, calls_by, collected}
 use Rattle.reo_session.specs.Running.{IsRunning, FiresNext}
-use Rattle.reo_session.specs.Watch.{AreAnsweredBy}
+use Rattle.reo_session.specs.Watch.{AreAnsweredAt}
 use Rattle.reo_session.proofs.CollectLemmas.{none_answered}
 use Rattle.reo_session.proofs.WatchLemmas.{each_same}
 
@@ -224,7 +224,7 @@ module _ (c : RawCircuit) (checked : IsChecked c) (texts : List (List ℕ)) (scr
         (open_after c texts scripts fit calls engine.ports running.ports_long running.posted allowed.names entry step is_step engine.count offered_then)
 
     -- and no others
-    pub answered_fired : AreAnsweredBy entry fired.ports
+    pub answered_fired : AreAnsweredAt entry.puts entry.gets fired.ports
     answered_fired port no_put no_get answered =
         none_answered scripts calls engine.ports running.posted port
         (record {

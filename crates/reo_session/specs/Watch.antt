@@ -98,9 +98,9 @@ pub record TakesAnswers {D : Type 0} (scripts : List (List Op)) (old : EngineSta
   pub knows : Knows scripts later watch.waiting.items
   pub asleep : KeepsAsleep old was.awake.items new watch.awake.items
 
--- answers stand at most where the entry puts or gets
-abbrev pub AreAnsweredBy : Entry → List PortState → Type 0
-AreAnsweredBy entry ports = (port : ℕ) → at_place entry.puts port ≡ None → at_place entry.gets port ≡ None → IsAnswered ports port → ⊥
+-- answers stand at most at these places
+abbrev pub AreAnsweredAt : List (ℕ × Value) → List (ℕ × Value) → List PortState → Type 0
+AreAnsweredAt puts gets ports = (port : ℕ) → at_place puts port ≡ None → at_place gets port ≡ None → IsAnswered ports port → ⊥
 
 -- what is known of a run between two turns: who waits, and that what is asleep is quiet
 pub record IsWatching {D : Type 0} (first_choice : ℕ → Reading → Option ℕ) (scripts : List (List Op)) (engine : EngineState D) (watch : Watch) (calls : List (List Called)) : Type 0 where

@@ -66,9 +66,8 @@ fn turn<P: Stepper>(
     let Some(region) = fire_next(engine, &mut watch.awake, regions, place) else {
         return Ok(None);
     };
-    let entry = keep_step(alloc, engine, plan, &mut progress.steps)?;
-    watch.wake_for(&entry);
-    collect(engine, watch, &mut progress.calls, board.scripts, &entry)?;
+    let answers = keep_step(alloc, engine, watch, plan, &mut progress.steps)?;
+    collect(engine, watch, &mut progress.calls, board.scripts, &answers)?;
     Ok(Some(region + 1))
 }
 

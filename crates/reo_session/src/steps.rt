@@ -3,7 +3,7 @@ ghost use Rattle.std.specs.Prelude.{IfOk};
 ghost use Rattle.reo_net.specs.declared.circuit.Step.{Step as AnyStep};
 ghost use Rattle.reo_fabric.specs.declared.entry.Entry.{Entry as AnyEntry};
 
-use reo_fabric::{Decider, Entry};
+use reo_fabric::{Decider, EntryRef};
 use reo_net::Step;
 use reo_plan::Plan;
 use std::alloc::{AllocError, Global};
@@ -17,7 +17,7 @@ pub trait Stepper: Decider {
     ghost has_step: { Self → AnyEntry → AnyStep → Type 0 };
 
     /// The step of an entry.
-    fn step_of(&self, alloc: Global, entry: &Entry) -> Result<Step, AllocError>
+    fn step_of(&self, alloc: Global, entry: &EntryRef<'_>) -> Result<Step, AllocError>
         requires { Self.may_step self.now entry.now }
         ensures { IfOk result (has_step self.now entry.now) };
 }
@@ -29,7 +29,7 @@ impl<'a> Stepper for Plan<'a> {
 
     ghost has_step = { λ plan. IsStepWherever plan.circuit plan.texts plan.tables };
 
-    fn step_of(&self, alloc: Global, entry: &Entry) -> Result<Step, AllocError> {
+    fn step_of(&self, alloc: Global, entry: &EntryRef<'_>) -> Result<Step, AllocError> {
         Plan::step_of(self, alloc, entry)
     }
 }

@@ -5,12 +5,14 @@ ghost use Rattle.reo_fabric.specs.declared.entry.Entry.{Entry as AnyEntry};
 ghost use Rattle.reo_fabric.specs.Engine.{Fires, engine_reading};
 ghost use Rattle.reo_session.specs.Turn.{FiresFirst, AreQuiet};
 ghost use Rattle.reo_session.specs.Running.{FiresNext};
-ghost use Rattle.reo_session.specs.Watch.{AsleepAreQuiet};
+ghost use Rattle.reo_session.specs.Watch.{AsleepAreQuiet, WakesFor};
 
 use crate::steps::Stepper;
-use crate::watch::skip_asleep;
-use reo_fabric::{Decider, Entry, PlainEngine};
+use crate::watch::{Watch, skip_asleep};
+use reo_fabric::{Decider, PlainEngine};
 use reo_net::Step;
+use reo_value::Value;
+use sqlite_items::Items;
 use std::alloc::{AllocError, Global};
 
 /// A region fires, where it can; else it is asleep from now on.
@@ -88,20 +90,33 @@ pub(crate) fn fire_next<D: Decider + Drop>(
     fire_between(engine, awake, 0, place)
 }
 
-/// Keeps the step of the engine's last entry, and tells the entry.
+/// The places that an entry puts and gets at.
+#[derive(Drop)]
+pub(crate) struct Answers {
+    pub puts: Items<(u32, Value)>,
+    pub gets: Items<(u32, Value)>,
+}
+
+/// Keeps the step of the engine's last entry, wakes the regions that have places of it, and tells where it is answered.
 pub(crate) fn keep_step<P: Stepper>(
     alloc: Global,
     engine: &PlainEngine<&P>,
+    watch: &mut Watch,
     plan: &P,
     steps: &mut Vec<Step>,
-) -> Result<Entry, AllocError>
+) -> Result<Answers, AllocError>
     requires last { (entry : AnyEntry) × (engine.now.last ≡ Some entry) × P.may_step plan.now entry }
     ensures step { OnOk result ((entry : AnyEntry) → engine.now.last ≡ Some entry → (step : AnyStep) × (steps.new.items ≡ steps.old.items ++ step ∷ []) × P.has_step plan.now entry step) }
-    ensures entry { IfOk result (λ entry. engine.now.last ≡ Some entry) }
+    ensures wakes { OnOk result ((entry : AnyEntry) → engine.now.last ≡ Some entry → WakesFor entry watch.old watch.new) }
+    ensures puts { IfOk result (λ answers. (entry : AnyEntry) → engine.now.last ≡ Some entry → answers.puts ≡ entry.puts) }
+    ensures gets { IfOk result (λ answers. (entry : AnyEntry) → engine.now.last ≡ Some entry → answers.gets ≡ entry.gets) }
 {
     let last = engine.last().unwrap();
-    let entry = last.to_entry(alloc)?;
-    let step = plan.step_of(alloc, &entry)?;
+    let step = plan.step_of(alloc, &last)?;
     steps.push(step)?;
-    Ok(entry)
+    watch.wake_for(&last);
+    Ok(Answers {
+        puts: Items::from_slice(alloc, last.puts())?,
+        gets: Items::from_slice(alloc, last.gets())?,
+    })
 }

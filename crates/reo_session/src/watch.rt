@@ -3,7 +3,7 @@ ghost use Rattle.std.specs.Prelude.{◌≡◌, ℕ, ◌≤◌, ◌<◌, length, 
 ghost use Rattle.std.specs.List.{list_all};
 ghost use Rattle.reo_session.specs.Watch.{AreAsleep, HasPlacesOf, IsAsleep, IsWatch, WakesAt, WakesFor};
 
-use reo_fabric::{CellSpec, Entry, Fabric, PortSpec};
+use reo_fabric::{CellSpec, EntryRef, Fabric, PortSpec};
 use reo_value::Value;
 use sqlite_items::at;
 use std::alloc::{AllocError, Global};
@@ -94,15 +94,15 @@ impl Watch {
     }
 
     /// Wakes the regions that have a place which the entry names.
-    pub fn wake_for(&mut self, entry: &Entry)
+    pub fn wake_for(&mut self, entry: &EntryRef<'_>)
         ensures { WakesFor entry.now self.old self.new }
     {
-        wake_at(&mut self.awake, &self.fillers, entry.takes.as_slice());
-        wake_at(&mut self.awake, &self.takers, entry.takes.as_slice());
-        wake_at(&mut self.awake, &self.fillers, entry.fills.as_slice());
-        wake_at(&mut self.awake, &self.takers, entry.fills.as_slice());
-        wake_at(&mut self.awake, &self.regions, entry.puts.as_slice());
-        wake_at(&mut self.awake, &self.regions, entry.gets.as_slice());
+        wake_at(&mut self.awake, &self.fillers, entry.takes());
+        wake_at(&mut self.awake, &self.takers, entry.takes());
+        wake_at(&mut self.awake, &self.fillers, entry.fills());
+        wake_at(&mut self.awake, &self.takers, entry.fills());
+        wake_at(&mut self.awake, &self.regions, entry.puts());
+        wake_at(&mut self.awake, &self.regions, entry.gets());
     }
 }
 

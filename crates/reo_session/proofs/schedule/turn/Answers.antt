@@ -1,12 +1,11 @@
-use Rattle.std.proofs.Common.{◌+◌, [], ◌∷◌, length, length-append, refl, sym, ap, ◌∙◌, subst}
+use Rattle.std.proofs.Common.{ℕ, ◌+◌, List, [], ◌∷◌, length, length-append, refl, sym, ap, ◌∙◌, subst}
 use Rattle.std.specs.Borrow.{Bor}
-use Rattle.std.proofs.lemmas.Option.{same_Some}
-use Rattle.reo_fabric.specs.declared.entry.Entry.{Entry}
-use Rattle.reo_fabric.specs.Engine.{EngineState, after_entry}
+use Rattle.reo_value.specs.declared.value.Value.{Value}
+use Rattle.reo_fabric.specs.Engine.{EngineState}
 use Rattle.reo_session.specs.Running.{FiresNext}
 use Rattle.reo_session.specs.Session.{firings_of}
 use Rattle.reo_session.specs.declared.watch.Watch.{Watch}
-use Rattle.reo_session.specs.Watch.{AreAnsweredBy, AsleepAreQuiet}
+use Rattle.reo_session.specs.Watch.{AreAnsweredAt, AsleepAreQuiet}
 use Rattle.reo_session.proofs.TakeLemmas.{may_then, watching_then}
 use Rattle.reo_session.proofs.WatchLemmas.{still_watch}
 use Rattle.reo_session.proofs.TurnLemmas.{scripts_fit_fabric, answered_fired, open_fired, long_fired, running_more}
@@ -31,17 +30,17 @@ collect-requires-clause-may g c =
     let b = c.args.board in
     let next = subst (λ (d : g.row.P.Denot). FiresNext (g.P.Decider.allows d) (g.P.Decider.first_choice d) e c.fire_next.new.engine c.args.place c.in-Some.region) c.requires.chooser c.in-Some.ensures.fires in
     let last = ap (λ (x : EngineState (Bor g.row.P.Denot)). x.last) next.fires.after in
-    let kept = c.in_ok-entry.ensures.step next.fires.entry last in
+    let kept = c.in_ok-answers.ensures.step next.fires.entry last in
     let watching = c.requires.watching in
-    let entry = same_Some next.fires.entry c.in_ok-entry.entry (sym last ∙ c.in_ok-entry.ensures.entry) in
+    let wakes = c.in_ok-answers.ensures.wakes next.fires.entry last in
     let fabric = ap (λ (x : EngineState (Bor g.row.P.Denot)). x.fabric) next.fires.after in
     let was : Watch = record c.args.watch.now { awake = c.fire_next.new.awake } in
     let is = still_watch e.fabric c.args.watch.now was watching.is_watch (record { awake = c.in-Some.ensures.long; regions = refl; fillers = refl; takers = refl }) in
-    let may = may_then b.scripts.now e c.fire_next.new.engine was c.wake_for.new.self c.in_ok-entry.entry c.args.progress.now.calls.items fabric
+    let may = may_then b.scripts.now e c.fire_next.new.engine was c.keep_step.new.watch next.fires.entry c.args.progress.now.calls.items fabric
     (scripts_fit_fabric b.net.now e.fabric (firings_of b.tables.now) s.board b.scripts.now s.fit)
     (long_fired b.net.now s.checked b.texts.now b.scripts.now s.fit s.put_values e.fabric (firings_of b.tables.now) s.board b.limit e.decider _ _ _ _ s.by_tables e c.args.progress.now.steps.items c.args.progress.now.calls.items c.args.place r c.requires.left c.requires.below c.fire_next.new.engine c.in-Some.region next kept.0 kept.2 ∙ r.ports_long ∙ sym s.board.is_fabric.as_many)
     (ap length r.calls_are ∙ r.under_way.lawful.components)
-    (open_fired b.net.now s.checked b.texts.now b.scripts.now s.fit s.put_values e.fabric (firings_of b.tables.now) s.board b.limit e.decider _ _ _ _ s.by_tables e c.args.progress.now.steps.items c.args.progress.now.calls.items c.args.place r c.requires.left c.requires.below c.fire_next.new.engine c.in-Some.region next kept.0 kept.2) is watching.waiting watching.knows c.wake_for.ensures in
+    (open_fired b.net.now s.checked b.texts.now b.scripts.now s.fit s.put_values e.fabric (firings_of b.tables.now) s.board b.limit e.decider _ _ _ _ s.by_tables e c.args.progress.now.steps.items c.args.progress.now.calls.items c.args.place r c.requires.left c.requires.below c.fire_next.new.engine c.in-Some.region next kept.0 kept.2) is watching.waiting watching.knows wakes in
     may
 
 pub collect-requires-clause-answered : goal.collect-requires-clause-answered
@@ -52,9 +51,10 @@ collect-requires-clause-answered g c =
     let b = c.args.board in
     let next = subst (λ (d : g.row.P.Denot). FiresNext (g.P.Decider.allows d) (g.P.Decider.first_choice d) e c.fire_next.new.engine c.args.place c.in-Some.region) c.requires.chooser c.in-Some.ensures.fires in
     let last = ap (λ (x : EngineState (Bor g.row.P.Denot)). x.last) next.fires.after in
-    let kept = c.in_ok-entry.ensures.step next.fires.entry last in
-    subst (λ (x : Entry). AreAnsweredBy x c.fire_next.new.engine.ports) (same_Some next.fires.entry c.in_ok-entry.entry (sym last ∙ c.in_ok-entry.ensures.entry))
-    (answered_fired b.net.now s.checked b.texts.now b.scripts.now s.fit s.put_values e.fabric (firings_of b.tables.now) s.board b.limit e.decider _ _ _ _ s.by_tables e c.args.progress.now.steps.items c.args.progress.now.calls.items c.args.place r c.requires.left c.requires.below c.fire_next.new.engine c.in-Some.region next kept.0 kept.2)
+    let kept = c.in_ok-answers.ensures.step next.fires.entry last in
+    subst (λ (puts : List (ℕ × Value)). AreAnsweredAt puts c.in_ok-answers.answers.gets c.fire_next.new.engine.ports) (sym (c.in_ok-answers.ensures.puts next.fires.entry last))
+    (subst (λ (gets : List (ℕ × Value)). AreAnsweredAt next.fires.entry.puts gets c.fire_next.new.engine.ports) (sym (c.in_ok-answers.ensures.gets next.fires.entry last))
+    (answered_fired b.net.now s.checked b.texts.now b.scripts.now s.fit s.put_values e.fabric (firings_of b.tables.now) s.board b.limit e.decider _ _ _ _ s.by_tables e c.args.progress.now.steps.items c.args.progress.now.calls.items c.args.place r c.requires.left c.requires.below c.fire_next.new.engine c.in-Some.region next kept.0 kept.2))
 
 pub returns-clause-running : goal.returns-clause-running
 returns-clause-running g c =
@@ -64,7 +64,7 @@ returns-clause-running g c =
     let b = c.args.board in
     let next = subst (λ (d : g.row.P.Denot). FiresNext (g.P.Decider.allows d) (g.P.Decider.first_choice d) e c.fire_next.new.engine c.args.place c.in-Some.region) c.requires.chooser c.in-Some.ensures.fires in
     let last = ap (λ (x : EngineState (Bor g.row.P.Denot)). x.last) next.fires.after in
-    let kept = c.in_ok-entry.ensures.step next.fires.entry last in
+    let kept = c.in_ok-answers.ensures.step next.fires.entry last in
     running_more b.net.now s.checked b.texts.now b.scripts.now s.fit s.put_values e.fabric (firings_of b.tables.now) s.board b.limit e.decider _ _ _ _ s.by_tables e c.args.progress.now.steps.items c.args.progress.now.calls.items c.args.place r c.requires.left c.requires.below c.fire_next.new.engine c.in-Some.region next kept.0 kept.2
     c.collect.new.engine c.keep_step.new.steps.items c.collect.new.calls.items (c.in-Some.region + 1) c.in_ok-collect.ensures.takes.engine kept.1 c.in_ok-collect.ensures.calls refl
     c.in_ok-collect.ensures.takes.collected.ports_long c.in_ok-collect.ensures.posted
@@ -77,24 +77,24 @@ returns-clause-watching g c =
     let b = c.args.board in
     let next = subst (λ (d : g.row.P.Denot). FiresNext (g.P.Decider.allows d) (g.P.Decider.first_choice d) e c.fire_next.new.engine c.args.place c.in-Some.region) c.requires.chooser c.in-Some.ensures.fires in
     let last = ap (λ (x : EngineState (Bor g.row.P.Denot)). x.last) next.fires.after in
-    let kept = c.in_ok-entry.ensures.step next.fires.entry last in
+    let kept = c.in_ok-answers.ensures.step next.fires.entry last in
     let watching = c.requires.watching in
-    let entry = same_Some next.fires.entry c.in_ok-entry.entry (sym last ∙ c.in_ok-entry.ensures.entry) in
+    let wakes = c.in_ok-answers.ensures.wakes next.fires.entry last in
     let fabric = ap (λ (x : EngineState (Bor g.row.P.Denot)). x.fabric) next.fires.after in
     let was : Watch = record c.args.watch.now { awake = c.fire_next.new.awake } in
     let is = still_watch e.fabric c.args.watch.now was watching.is_watch (record { awake = c.in-Some.ensures.long; regions = refl; fillers = refl; takers = refl }) in
-    let may = may_then b.scripts.now e c.fire_next.new.engine was c.wake_for.new.self c.in_ok-entry.entry c.args.progress.now.calls.items fabric
+    let may = may_then b.scripts.now e c.fire_next.new.engine was c.keep_step.new.watch next.fires.entry c.args.progress.now.calls.items fabric
     (scripts_fit_fabric b.net.now e.fabric (firings_of b.tables.now) s.board b.scripts.now s.fit)
     (long_fired b.net.now s.checked b.texts.now b.scripts.now s.fit s.put_values e.fabric (firings_of b.tables.now) s.board b.limit e.decider _ _ _ _ s.by_tables e c.args.progress.now.steps.items c.args.progress.now.calls.items c.args.place r c.requires.left c.requires.below c.fire_next.new.engine c.in-Some.region next kept.0 kept.2 ∙ r.ports_long ∙ sym s.board.is_fabric.as_many)
     (ap length r.calls_are ∙ r.under_way.lawful.components)
-    (open_fired b.net.now s.checked b.texts.now b.scripts.now s.fit s.put_values e.fabric (firings_of b.tables.now) s.board b.limit e.decider _ _ _ _ s.by_tables e c.args.progress.now.steps.items c.args.progress.now.calls.items c.args.place r c.requires.left c.requires.below c.fire_next.new.engine c.in-Some.region next kept.0 kept.2) is watching.waiting watching.knows c.wake_for.ensures in
-    watching_then (g.P.Decider.first_choice c.args.plan.now) b.scripts.now e c.fire_next.new.engine c.collect.new.engine was c.wake_for.new.self c.collect.new.watch c.in_ok-entry.entry
+    (open_fired b.net.now s.checked b.texts.now b.scripts.now s.fit s.put_values e.fabric (firings_of b.tables.now) s.board b.limit e.decider _ _ _ _ s.by_tables e c.args.progress.now.steps.items c.args.progress.now.calls.items c.args.place r c.requires.left c.requires.below c.fire_next.new.engine c.in-Some.region next kept.0 kept.2) is watching.waiting watching.knows wakes in
+    watching_then (g.P.Decider.first_choice c.args.plan.now) b.scripts.now e c.fire_next.new.engine c.collect.new.engine was c.keep_step.new.watch c.collect.new.watch next.fires.entry
     c.args.progress.now.calls.items c.collect.new.calls.items is
     (subst (λ (d : g.row.P.Denot). AsleepAreQuiet (g.P.Decider.first_choice d) e c.fire_next.new.awake.items) c.requires.chooser c.in-Some.ensures.asleep)
-    (next.fires.after ∙ ap (after_entry e) entry) c.wake_for.ensures may c.in_ok-collect.ensures.takes
+    next.fires.after wakes may c.in_ok-collect.ensures.takes
 
 pub returns-clause-one_step : goal.returns-clause-one_step
 returns-clause-one_step g c =
     let next = c.in-Some.ensures.fires in
-    let kept = c.in_ok-entry.ensures.step next.fires.entry (ap (λ (x : EngineState (Bor g.row.P.Denot)). x.last) next.fires.after) in
+    let kept = c.in_ok-answers.ensures.step next.fires.entry (ap (λ (x : EngineState (Bor g.row.P.Denot)). x.last) next.fires.after) in
     ap length kept.1 ∙ length-append c.args.progress.now.steps.items (kept.0 ∷ [])

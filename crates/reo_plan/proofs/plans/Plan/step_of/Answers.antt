@@ -14,22 +14,22 @@ use Rattle.reo_plan.proofs.DeciderLaw.{entry_row}
 use Rattle.reo_plan.proofs.BackLaw.{step_pairs}
 use Rattle.reo_plan.proofs.plans.Plan.step_of.Goals as goal
 
-pub bounds-as_slice-entry : goal.bounds-as_slice-entry
-bounds-as_slice-entry c =
+pub bounds-as_slice-region : goal.bounds-as_slice-region
+bounds-as_slice-region c =
     let tables = map firings_in c.self.inside.tables.now in
     let allowed = subst (λ (s : PlanState). (reading : Reading) × Allows s.circuit s.texts s.tables c.args.entry.now.region reading c.args.entry.now) (sym c.self.view_is) c.requires.allowed in
     let at = entry_row c.self.inside.net.now c.self.inside.texts.now tables c.self.inside.plans c.self.invariant.1 c.args.entry.now.region allowed.0 c.args.entry.now allowed.1 in
-    slice_get_within c.as_slice.result.now c.args.entry.now.region at.rows (ap (λ plans. slice_get plans c.args.entry.now.region) c.as_slice.ensures ∙ at.rows_found)
+    slice_get_within c.as_slice.result.now c.region.result at.rows (ap (slice_get c.as_slice.result.now) c.region.ensures ∙ ap (λ plans. slice_get plans c.args.entry.now.region) c.as_slice.ensures ∙ at.rows_found)
 
-pub bounds-rows-entry : goal.bounds-rows-entry
-bounds-rows-entry c =
+pub bounds-rows-choice : goal.bounds-rows-choice
+bounds-rows-choice c =
     let tables = map firings_in c.self.inside.tables.now in
     let allowed = subst (λ (s : PlanState). (reading : Reading) × Allows s.circuit s.texts s.tables c.args.entry.now.region reading c.args.entry.now) (sym c.self.view_is) c.requires.allowed in
     let at = entry_row c.self.inside.net.now c.self.inside.texts.now tables c.self.inside.plans c.self.invariant.1 c.args.entry.now.region allowed.0 c.args.entry.now allowed.1 in
     let rows : c.as_slice-rows.result.now ≡ at.rows =
-    c.as_slice-rows.ensures ∙ c.index-as_slice-entry.is
-    ∙ get_or_from_slice_get c.as_slice.result.now c.args.entry.now.region at.rows _ (ap (λ plans. slice_get plans c.args.entry.now.region) c.as_slice.ensures ∙ at.rows_found) in
-    subst (λ (rs : List Row). c.args.entry.now.choice < length rs) (sym rows) (slice_get_within at.rows c.args.entry.now.choice at.row at.row_found)
+    c.as_slice-rows.ensures ∙ c.index-as_slice-region.is
+    ∙ get_or_from_slice_get c.as_slice.result.now c.region.result at.rows _ (ap (slice_get c.as_slice.result.now) c.region.ensures ∙ ap (λ plans. slice_get plans c.args.entry.now.region) c.as_slice.ensures ∙ at.rows_found) in
+    subst (λ (rs : List Row). c.choice.result < length rs) (sym rows) (slice_get_within at.rows c.choice.result at.row (ap (slice_get at.rows) c.choice.ensures ∙ at.row_found))
 
 pub returns : goal.returns
 returns c =
@@ -42,15 +42,15 @@ returns c =
           (λ reading allowed.
           let at = entry_row net texts tables c.self.inside.plans c.self.invariant.1 entry.region reading entry allowed in
           let rows : c.as_slice-rows.result.now ≡ at.rows =
-          c.as_slice-rows.ensures ∙ c.index-as_slice-entry.is
-          ∙ get_or_from_slice_get c.as_slice.result.now entry.region at.rows _ (ap (λ plans. slice_get plans entry.region) c.as_slice.ensures ∙ at.rows_found) in
-          let row : c.index-rows-entry.result ≡ at.row =
-          c.index-rows-entry.is ∙ get_or_from_slice_get c.as_slice-rows.result.now entry.choice at.row _ (ap (λ (rs : List Row). slice_get rs entry.choice) rows ∙ at.row_found) in
+          c.as_slice-rows.ensures ∙ c.index-as_slice-region.is
+          ∙ get_or_from_slice_get c.as_slice.result.now c.region.result at.rows _ (ap (slice_get c.as_slice.result.now) c.region.ensures ∙ ap (λ plans. slice_get plans entry.region) c.as_slice.ensures ∙ at.rows_found) in
+          let row : c.index-rows-choice.result ≡ at.row =
+          c.index-rows-choice.is ∙ get_or_from_slice_get c.as_slice-rows.result.now c.choice.result at.row _ (ap (slice_get c.as_slice-rows.result.now) c.choice.ensures ∙ ap (λ (rs : List Row). slice_get rs entry.choice) rows ∙ at.row_found) in
           let pairs : c.in_ok-pairs.pairs ≡ allowed.step.pairs =
           c.in_ok-pairs.ensures
           ∙ ap (λ (r : Reading). values_at (slot_value net texts (sources_of r) c.as_slice-slots.result.now) c.as_slice-named.result.now) c.in_ok-reading.ensures
           ∙ ap (λ (slots : List Giver). values_at (slot_value net texts (sources_of (reading_back entry)) slots) c.as_slice-named.result.now) c.as_slice-slots.ensures
-          ∙ ap (λ (named : List (ℕ × ℕ)). values_at (slot_value net texts (sources_of (reading_back entry)) c.index-rows-entry.result.slots) named) c.as_slice-named.ensures
+          ∙ ap (λ (named : List (ℕ × ℕ)). values_at (slot_value net texts (sources_of (reading_back entry)) c.index-rows-choice.result.slots) named) c.as_slice-named.ensures
           ∙ ap (λ (r : Row). values_at (slot_value net texts (sources_of (reading_back entry)) r.slots) r.named) row
           ∙ step_pairs net c.nodes-nodes.ensures.checked texts tables c.self.invariant.0 entry.region reading entry allowed at.row at.is_row in
           (λ i. record { pairs = pairs i }));
