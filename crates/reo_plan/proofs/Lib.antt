@@ -14,3 +14,4 @@ pub mod FirstLaw
 pub mod BackLaw
 pub mod MarkLemmas
 pub mod AskLemmas
+pub mod IncomingLemmas

@@ -1,11 +1,11 @@
 //! Where the names of a firing have their data from.
-ghost use Rattle.std.specs.Prelude.{◌≡◌, ◌<◌, ◌≤◌, length, map, count_by, IfOk};
-ghost use Rattle.std.specs.List.{range_with_len, find};
+ghost use Rattle.std.specs.Prelude.{◌≡◌, ◌<◌, ◌≤◌, [], ◌∷◌, ◌++◌, length, map, count_by, IfOk, OnOk};
+ghost use Rattle.std.specs.List.{range_with_len};
 ghost use Rattle.reo_net.specs.Names.{name_count, end_a};
 ghost use Rattle.reo_net.specs.Kind.{is_fifo};
 ghost use Rattle.reo_net.specs.Steps.{cell_of};
-ghost use Rattle.reo_flow.specs.Flow.{comes_into, input_of, port_giver, b_giver, end_giver, giver_of};
-ghost use Rattle.reo_plan.specs.inside.Cells.{cell_numbers};
+ghost use Rattle.reo_flow.specs.Flow.{input_of, port_giver, b_giver, end_giver, giver_of};
+ghost use Rattle.reo_plan.specs.inside.Cells.{cell_numbers, first_into, incoming_of, node_into};
 
 use reo_flow::Giver;
 use reo_net::{Channel, Kind, Net, Port, stand_of};
@@ -44,40 +44,73 @@ pub(crate) fn cell_numbers(alloc: Global, net: &Net) -> Result<Vec<u32>, AllocEr
     Ok(cells)
 }
 
-fn comes_into(net: &Net, node: u32, name: u32) -> bool
-    ensures { result ≡ comes_into net.now node name }
+/// The node that a name comes into, if it does.
+fn node_into(net: &Net, name: u32) -> Option<u32>
+    ensures { result ≡ node_into net.now name }
 {
     match stand_of(net, name) {
-        Some(stand) => stand.incoming && stand.node == node,
-        None => false,
+        Some(stand) => {
+            if stand.incoming {
+                Some(stand.node)
+            } else {
+                None
+            }
+        }
+        None => None,
     }
 }
 
-fn first_input(net: &Net, names: &[u32], node: u32) -> Option<u32>
-    ensures { result ≡ find (comes_into net.now node) names.now }
+/// Adds a name behind the node that it comes into, if it does.
+fn add_incoming(net: &Net, pairs: &mut Vec<(u32, u32)>, name: u32) -> Result<(), AllocError>
+    ensures { OnOk result (pairs.new.items ≡ pairs.old.items ++ incoming_of net.now (name ∷ [])) }
 {
-    names
-        .iter()
-        .copied()
-        .find(|name| comes_into(net, node, *name))
+    match node_into(net, name) {
+        Some(node) => {
+            pairs.push((node, name))?;
+            Ok(())
+        }
+        None => Ok(()),
+    }
+}
+
+/// The names of a firing that come into nodes, each behind its node.
+fn incoming_of(alloc: Global, net: &Net, names: &[u32]) -> Result<Vec<(u32, u32)>, AllocError>
+    ensures { IfOk result (λ pairs. pairs.items ≡ incoming_of net.now names.now) }
+{
+    let mut pairs = Vec::with_capacity(alloc, names.len())?;
+    for name in names {
+        add_incoming(net, &mut pairs, *name)?;
+    }
+    Ok(pairs)
+}
+
+fn first_into(incoming: &[(u32, u32)], node: u32) -> Option<u32>
+    ensures { result ≡ first_into incoming.now node }
+{
+    let pair = incoming.iter().find(|pair| pair.0 == node)?;
+    Some(pair.1)
 }
 
 /// The datum of the first of the names that comes into the node.
-fn input_of(net: &Net, names: &[u32], node: u32) -> Giver
+fn input_of(net: &Net, names: &[u32], incoming: &[(u32, u32)], node: u32) -> Giver
+    requires { incoming.now ≡ incoming_of net.now names.now }
     ensures { result ≡ input_of net.now names.now node }
 {
-    match first_input(net, names, node) {
+    let _ = net;
+    let _ = names;
+    match first_into(incoming, node) {
         Some(name) => Giver::Same(name),
         None => Giver::Unfed,
     }
 }
 
-fn port_giver(net: &Net, names: &[u32], number: u32, port: &Port) -> Giver
+fn port_giver(net: &Net, names: &[u32], incoming: &[(u32, u32)], number: u32, port: &Port) -> Giver
+    requires { incoming.now ≡ incoming_of net.now names.now }
     ensures { result ≡ port_giver net.now names.now number port.now }
 {
     match port.way {
         Way::Put => Giver::Port(number),
-        Way::Get => input_of(net, names, port.node),
+        Way::Get => input_of(net, names, incoming, port.node),
     }
 }
 
@@ -99,7 +132,15 @@ pub(crate) fn cell_number(net: &Net, cells: &[u32], number: u32) -> u32
     cells[number as usize]
 }
 
-fn b_giver(net: &Net, cells: &[u32], names: &[u32], number: u32, channel: &Channel) -> Giver
+fn b_giver(
+    net: &Net,
+    cells: &[u32],
+    names: &[u32],
+    incoming: &[(u32, u32)],
+    number: u32,
+    channel: &Channel,
+) -> Giver
+    requires incoming { incoming.now ≡ incoming_of net.now names.now }
     requires found { number < length net.now.channels }
     requires cells { cells.now ≡ cell_numbers net.now }
     ensures { result ≡ b_giver net.now names.now number channel.now.b channel.now.kind }
@@ -107,7 +148,7 @@ fn b_giver(net: &Net, cells: &[u32], names: &[u32], number: u32, channel: &Chann
     match channel.kind {
         Kind::Sync => Giver::Same(end_a(net, number)),
         Kind::Lossy => Giver::Same(end_a(net, number)),
-        Kind::Drain => input_of(net, names, channel.b),
+        Kind::Drain => input_of(net, names, incoming, channel.b),
         Kind::Fifo(_) => Giver::Cell(cell_number(net, cells, number)),
         Kind::Filter(_) => Giver::Same(end_a(net, number)),
         Kind::Transform(_) => Giver::Image(number, end_a(net, number)),
@@ -118,31 +159,34 @@ fn end_giver(
     net: &Net,
     cells: &[u32],
     names: &[u32],
+    incoming: &[(u32, u32)],
     number: u32,
     is_a: bool,
     channel: &Channel,
 ) -> Giver
+    requires incoming { incoming.now ≡ incoming_of net.now names.now }
     requires found { number < length net.now.channels }
     requires cells { cells.now ≡ cell_numbers net.now }
     ensures { result ≡ end_giver net.now names.now number is_a channel.now }
 {
     if is_a {
-        input_of(net, names, channel.a)
+        input_of(net, names, incoming, channel.a)
     } else {
-        b_giver(net, cells, names, number, channel)
+        b_giver(net, cells, names, incoming, number, channel)
     }
 }
 
 /// Where a name has its datum from.
-fn giver_of(net: &Net, cells: &[u32], names: &[u32], name: u32) -> Giver
-    requires { cells.now ≡ cell_numbers net.now }
+fn giver_of(net: &Net, cells: &[u32], names: &[u32], incoming: &[(u32, u32)], name: u32) -> Giver
+    requires incoming { incoming.now ≡ incoming_of net.now names.now }
+    requires cells { cells.now ≡ cell_numbers net.now }
     ensures { result ≡ giver_of net.now names.now name }
 {
     let ports = net.ports().len();
     let name = name as usize;
     if name < ports {
         match at(net.ports(), name) {
-            Some(port) => port_giver(net, names, name as u32, port),
+            Some(port) => port_giver(net, names, incoming, name as u32, port),
             None => Giver::Unfed,
         }
     } else {
@@ -150,7 +194,7 @@ fn giver_of(net: &Net, cells: &[u32], names: &[u32], name: u32) -> Giver
         match at(net.channels(), number) {
             Some(channel) => {
                 let is_a = (name - ports) % 2 == 0;
-                end_giver(net, cells, names, number as u32, is_a, channel)
+                end_giver(net, cells, names, incoming, number as u32, is_a, channel)
             }
             None => Giver::Unfed,
         }
@@ -167,9 +211,24 @@ pub(crate) fn givers(
     requires { cells.now ≡ cell_numbers net.now }
     ensures { IfOk result (λ givers. givers.items ≡ map (giver_of net.now names.now) (range_with_len 0 (name_count net.now))) }
 {
-    let mut givers = Vec::new(alloc);
+    let incoming = incoming_of(alloc, net, names)?;
+    all_givers(alloc, net, cells, names, incoming.as_slice())
+}
+
+fn all_givers(
+    alloc: Global,
+    net: &Net,
+    cells: &[u32],
+    names: &[u32],
+    incoming: &[(u32, u32)],
+) -> Result<Vec<Giver>, AllocError>
+    requires incoming { incoming.now ≡ incoming_of net.now names.now }
+    requires cells { cells.now ≡ cell_numbers net.now }
+    ensures { IfOk result (λ givers. givers.items ≡ map (giver_of net.now names.now) (range_with_len 0 (name_count net.now))) }
+{
+    let mut givers = Vec::with_capacity(alloc, net.names() as usize)?;
     for name in 0..net.names() {
-        givers.push(giver_of(net, cells, names, name))?;
+        givers.push(giver_of(net, cells, names, incoming, name))?;
     }
     Ok(givers)
 }

@@ -2,7 +2,7 @@ use Rattle.std.proofs.Common.{◌∷◌, [], ◌++◌, map, sym, ap, ◌∙◌}
 use Rattle.std.specs.List.{range_with_len}
 use Rattle.reo_flow.specs.Flow.{giver_of}
 use Rattle.reo_cut.proofs.CountLemmas.{map_range_more}
-use Rattle.reo_plan.proofs.givers.givers.Goals as goal
+use Rattle.reo_plan.proofs.givers.all_givers.Goals as goal
 
 pub loop-name-preserved : goal.loop-name-preserved
 loop-name-preserved c =
