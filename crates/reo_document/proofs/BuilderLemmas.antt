@@ -1,71 +1,58 @@
 -- Lines and scripts, one after the other.
-use Rattle.std.proofs.Common.{◌≡◌, ℕ, suc, ◌+◌, ◌-◌, ◌<◌, ◌≤◌, nat_le, Bool, true, false, if◌then◌else◌, List, [], ◌∷◌, ◌++◌, length, drop, get_or, Option, Some, None, is_some, unwrap_or, refl, sym, ap, ◌∙◌, arith, add-one, drop-cons, drop_of_length-le}
-use Rattle.std.proofs.lemmas.List.Sums.{sum_by-cons}
+use Rattle.std.proofs.Common.{◌≡◌, ℕ, ◌+◌, ◌-◌, ◌<◌, ◌≤◌, ◌==◌, nat_le, Bool, true, false, if◌then◌else◌, List, [], ◌∷◌, ◌++◌, length, length-append, set, get_or, Option, Some, None, is_some, unwrap_or, refl, sym, ap, ◌∙◌, arith}
+use Rattle.std.proofs.lemmas.List.Sums.{sum_by-set, sum_by_push}
+use Rattle.std.proofs.lemmas.Option.{slice_get-get_or}
 use borrow.Author.Tests.{leb-true, le-leb}
-use Rattle.std.proofs.lemmas.Bool.{false≢true}
+use Rattle.std.proofs.lemmas.Bool.{false≢true, eqb-true, eq-eqb}
 use Rattle.reo_value.specs.declared.op.Op.{Op}
-use Rattle.reo_net.specs.declared.circuit.Channel.{Channel}
 use Rattle.reo_document.specs.declared.line.Line.{Line}
 use Rattle.reo_document.specs.declared.line.Line.TheVariants as line
 use Rattle.reo_net.specs.declared.kind.Kind as net
-use Rattle.reo_value.specs.Lexicon.{place_of, added}
-use Rattle.reo_value.proofs.LexiconLemmas.{place_of-push, place_of-append}
+use Rattle.reo_value.specs.Lexicon.{place_of, added, NoRepeats}
+use Rattle.reo_value.proofs.LexiconLemmas.{place_of-push, place_of-append, place_of-slice_get}
 use Rattle.reo_sentence.specs.Numbered.{number_in}
 use Rattle.reo_sentence.specs.Said.{ChannelSaid}
 use Rattle.reo_document.specs.Document.{DocumentData}
-use Rattle.reo_document.specs.Placed.{operation_count, with_said}
+use Rattle.reo_document.specs.Placed.{operation_count, with_operation, with_said}
 
--- the scripts so far leave this room for operations
-pub record Counted (scripts : List (List Op)) (at room : ℕ) : Type 0 where
-  pub rest : nat_le 100000 (operation_count scripts) ≡ nat_le room (operation_count (drop at scripts))
-  pub some : 0 < room
-  pub most : room ≤ 100000
-
-pub counted-start : (scripts : List (List Op)) → Counted scripts 0 100000
-counted-start scripts = record { rest = refl; some = omega arith; most = omega arith }
-
-count_next : (scripts : List (List Op)) (at : ℕ) → at < length scripts → operation_count (drop at scripts) ≡ length (get_or scripts at []) + operation_count (drop (at + 1) scripts)
-count_next scripts at here = rw (add-one, drop-cons scripts at []) (sum_by-cons (λ (s : List Op). length s) (get_or scripts at []) (drop (suc at) scripts))
-
-same_le : (a b c : ℕ) → b ≤ a → nat_le a (b + c) ≡ nat_le (a - b) c
-same_le a b c less = by (nat_le a (b + c)) (nat_le (a - b) c) refl refl
+-- a document is full where no room is left
+pub no_room : (room : ℕ) (scripts : List (List Op)) → room ≡ 100000 - operation_count scripts → (room == 0) ≡ nat_le 100000 (operation_count scripts)
+no_room room scripts left = by (room == 0) (nat_le 100000 (operation_count scripts)) refl refl
   where
-    by : (p q : Bool) → nat_le a (b + c) ≡ p → nat_le (a - b) c ≡ q → p ≡ q
+    by : (p q : Bool) → (room == 0) ≡ p → nat_le 100000 (operation_count scripts) ≡ q → p ≡ q
     by true true x y = refl
     by false false x y = refl
     by true false x y =
-        let le : a ≤ b + c = leb-true a (b + c) x in
-        let also : a - b ≤ c = omega (arith, le, less) in
-        absurd (false≢true (sym y ∙ le-leb (a - b) c also))
+        let none : room ≡ 0 = eqb-true room 0 x in
+        let full : 100000 ≤ operation_count scripts = omega (arith, left, none) in
+        absurd (false≢true (sym y ∙ le-leb 100000 (operation_count scripts) full))
     by false true x y =
-        let le : a - b ≤ c = leb-true (a - b) c y in
-        let also : a ≤ b + c = omega (arith, le, less) in
-        absurd (false≢true (sym x ∙ le-leb a (b + c) also))
+        let full : 100000 ≤ operation_count scripts = leb-true 100000 (operation_count scripts) y in
+        let none : room ≡ 0 = omega (arith, left, full) in
+        absurd (false≢true (sym x ∙ eq-eqb room 0 none))
 
-pub counted-next : (scripts : List (List Op)) (at room : ℕ) → Counted scripts at room → at < length scripts → length (get_or scripts at []) < room
-    → Counted scripts (at + 1) (room - length (get_or scripts at []))
-counted-next scripts at room counted here less = record {
-  rest =
-      counted.rest ∙ ap (nat_le room) (count_next scripts at here)
-      ∙ same_le room (length (get_or scripts at [])) (operation_count (drop (at + 1) scripts)) (omega (arith, less));
-  some = omega (arith, less);
-  most = omega (arith, counted.most);
-}
+-- one operation more leaves less room
+pub less_room : (scripts later : List (List Op)) (o : Op) (room after last : ℕ) → last + 1 ≡ length scripts → last ≡ length scripts - 1 → later ≡ with_operation scripts o → after ≡ room - 1
+    → room ≡ 100000 - operation_count scripts → after ≡ 100000 - operation_count later
+less_room scripts later o room after last is place grown less left =
+    let size : ℕ = length (get_or scripts last []) in
+    let one : length (get_or scripts last [] ++ o ∷ []) ≡ length (get_or scripts last []) + 1 = length-append (get_or scripts last []) (o ∷ []) in
+    let within : last < length scripts = omega (arith, is) in
+    let sums = sum_by-set (λ (s : List Op). length s) scripts last (get_or scripts last [] ++ o ∷ []) [] within in
+    let counts : operation_count (set scripts last (get_or scripts last [] ++ o ∷ [])) ≡ operation_count scripts + 1 = omega (arith, one, sums) in
+    let same : operation_count later ≡ operation_count (set scripts last (get_or scripts last [] ++ o ∷ [])) =
+    ap operation_count grown ∙ ap (λ n. operation_count (set scripts n (get_or scripts n [] ++ o ∷ []))) (sym place) in
+    omega (arith, same, counts, less, left)
 
-pub counted-full : (scripts : List (List Op)) (at room : ℕ) → Counted scripts at room → at < length scripts → room ≤ length (get_or scripts at []) → true ≡ nat_le 100000 (operation_count scripts)
-counted-full scripts at room counted here more =
-    sym (counted.rest ∙ le-leb room (operation_count (drop at scripts)) (omega (arith, more, count_next scripts at here)))
+-- a script without operations leaves as much
+pub same_room : (scripts later : List (List Op)) (room : ℕ) → later ≡ scripts ++ [] ∷ [] → room ≡ 100000 - operation_count scripts → room ≡ 100000 - operation_count later
+same_room scripts later room grown left =
+    let same : operation_count later ≡ operation_count scripts + 0 = ap operation_count grown ∙ sum_by_push (λ (s : List Op). length s) scripts [] in
+    omega (arith, same, left)
 
-pub counted-end : (scripts : List (List Op)) (at room : ℕ) → Counted scripts at room → length scripts ≤ at → false ≡ nat_le 100000 (operation_count scripts)
-counted-end scripts at room counted over =
-    sym (counted.rest ∙ ap (λ ss. nat_le room (operation_count ss)) (drop_of_length-le scripts over) ∙ none room counted.some)
-  where
-    none : (r : ℕ) → 0 < r → nat_le r 0 ≡ false
-    none r some = by (nat_le r 0) refl
-      where
-        by : (p : Bool) → nat_le r 0 ≡ p → p ≡ false
-        by true is = absurd (omega (arith, some, leb-true r 0 is))
-        by false is = refl
+-- a name is the one that stands at a place where it does
+pub stands_at : (names : List (List ℕ)) (name : List ℕ) (place : ℕ) → NoRepeats names → place < length names → name ≡ get_or names place [] → place_of names name ≡ Some place
+stands_at names name place distinct within is = place_of-slice_get names name place distinct (slice_get-get_or names place [] within ∙ ap Some (sym is))
 
 -- The document with a component more.
 pub with_people : (lines : List Line) (nodes texts people after : List (List ℕ)) (scripts later : List (List Op)) (name : List ℕ) → after ≡ added people name → later ≡ scripts ++ [] ∷ []

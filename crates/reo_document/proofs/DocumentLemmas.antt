@@ -1,5 +1,5 @@
 -- What bytes spell is a document.
-use Rattle.std.proofs.Common.{◌≡◌, ℕ, suc, ◌+◌, ◌-◌, ◌<◌, ◌≤◌, ◌==◌, nat_le, if◌then◌else◌, Bool, true, false, not, List, [], ◌∷◌, ◌++◌, length, set, get_or, take, All, Option, Some, None, is_some, slice_get, sum_by, refl, sym, ap, subst, ◌∙◌, arith, ◌⊎◌, inl, inr, ⊎_elim, length-append, length-set}
+use Rattle.std.proofs.Common.{◌≡◌, ℕ, suc, ◌+◌, ◌-◌, ◌<◌, ◌≤◌, ◌==◌, nat_le, if◌then◌else◌, Bool, true, false, not, List, [], ◌∷◌, ◌++◌, length, set, get_or, take, All, Option, Some, None, is_some, slice_get, refl, sym, ap, subst, ◌∙◌, arith, ◌⊎◌, inl, inr, length-append, length-set}
 use Rattle.std.specs.List.{filter_map, list_any}
 use Rattle.std.specs.Option.{option_map_or, option_and_then}
 use Rattle.std.proofs.lemmas.Bool.{cases_eq, false≢true, eqb-true, eq-eqb, leb-false}
@@ -12,7 +12,6 @@ use Rattle.reo_value.specs.declared.op.Op.{Op}
 use Rattle.reo_value.specs.declared.op.Op.TheVariants as op
 use Rattle.reo_value.specs.declared.op.Way.{Way}
 use Rattle.reo_value.specs.declared.op.Way.TheVariants.{Put, Get}
-use Rattle.reo_value.specs.declared.value.Value.{Value}
 use Rattle.reo_value.proofs.LexiconLemmas.{length-added}
 use Rattle.reo_net.specs.declared.kind.Kind.{Kind}
 use Rattle.reo_net.specs.declared.circuit.Channel.{Channel}
@@ -32,9 +31,9 @@ use Rattle.reo_document.specs.declared.refusal.TextRefusal.TheVariants.{NumberRa
 use Rattle.reo_document.specs.Document.{DocumentData, IsDocument, channel_in, port_in, circuit_of}
 use Rattle.reo_document.specs.Placed.{is_same_way, port_from, port_named, is_taken, operation_count, misplaced_at, misplaced, port_number, with_operation, with_said}
 use Rattle.reo_document.specs.Lines.{lines_of}
-use Rattle.reo_document.specs.Spells.{empty, Outcome, Goes, Stops, refusal_at, outcome_by, placed, outcome_of, Leads, bad, large, skipped, wrong, says, Then, LinesLead, Spells}
+use Rattle.reo_document.specs.Spells.{empty, Outcome, Goes, Stops, outcome_by, placed, outcome_of, Leads, bad, large, skipped, wrong, says, Then, LinesLead, Spells}
 use Rattle.reo_document.proofs.ListLemmas.{slice_get-append, slice_get-push, slice_get-set_same, slice_get-set_other, slice_get-take, list_any-slice_get}
-use Rattle.reo_document.proofs.TextLemmas.{AreBelow, AreBelow-more, Grows, number_in-below, number_in-added, texts_said, sentence_named}
+use Rattle.reo_document.proofs.TextLemmas.{AreBelow, AreBelow-more, number_in-below, number_in-added, texts_said, sentence_named}
 
 -- the numbers in the lines are those of so many nodes and texts
 record HasNumbersBelow (nodes texts : ℕ) (lines : List Line) : Type 0 where

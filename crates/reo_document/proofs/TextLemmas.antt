@@ -1,7 +1,7 @@
 -- Texts that are numbered have numbers below the count of all texts.
-use Rattle.std.proofs.Common.{◌≡◌, ℕ, ℤ, ◌<◌, ◌≤◌, List, [], ◌∷◌, ◌++◌, length, All, Option, Some, None, flat_map, unwrap_or, refl, sym, ap, subst, ◌∙◌, arith}
+use Rattle.std.proofs.Common.{◌≡◌, ℕ, ◌<◌, ◌≤◌, List, [], ◌∷◌, ◌++◌, length, All, Option, Some, None, flat_map, unwrap_or, sym, ap, subst, ◌∙◌, arith}
 use Rattle.std.proofs.lemmas.List.Elements.{All-nil, All-cons, All-append, All-weaker}
-use Rattle.reo_value.specs.Lexicon.{place_of, added}
+use Rattle.reo_value.specs.Lexicon.{added}
 use Rattle.reo_value.specs.declared.value.Value.{Value}
 use Rattle.reo_value.proofs.LexiconLemmas.{place_of-added_itself, place_of-added, place_of-within, length-added}
 use Rattle.reo_guard.specs.Texts.{texts_of_value, texts_of_layer, texts_of_guard, texts_of_fun}
@@ -16,7 +16,7 @@ use Rattle.reo_grammar.specs.Guards.{Atom, Compare, Mod, IsInt, IsText, LenAtMos
 use Rattle.reo_grammar.specs.Functions.{Function, Add, Sub, Mul, Neg, Len, Map}
 use Rattle.reo_grammar.specs.Lines.{Kind, SyncKind, LossyKind, DrainKind, FifoKind, FilterKind, TransformKind, Sentence, PortLine, ChannelLine, ComponentLine, PutLine, GetLine}
 use Rattle.reo_sentence.specs.Limits.{small_remainder, small_length}
-use Rattle.reo_sentence.specs.Numbered.{number_in, numbered_text, numbered_const, numbered_atom, mod_guard, numbered_guard, numbered_pair, numbered_pairs, numbered_function}
+use Rattle.reo_sentence.specs.Numbered.{number_in, numbered_const, numbered_atom, mod_guard, numbered_guard, numbered_pair, numbered_pairs, numbered_function}
 use Rattle.reo_sentence.specs.Said.{Said, PortSaid, ChannelSaid, ComponentSaid, PutSaid, GetSaid, numbered_kind, numbered_sentence}
 
 abbrev pub AreBelow : ℕ → List ℕ → Type 0

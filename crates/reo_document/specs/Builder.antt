@@ -1,5 +1,5 @@
 -- The document so far, as its builder has it.
-use Rattle.std.specs.Prelude.{◌≡◌, ℕ, suc, ◌+◌, ◌*◌, ◌≤◌, ◌==◌, nat_lt, if◌then◌else◌, Bool, false, List, [], ◌∷◌, length, slice_get, Option, Some, None, unwrap_or}
+use Rattle.std.specs.Prelude.{◌≡◌, ℕ, suc, ◌+◌, ◌-◌, ◌*◌, ◌≤◌, ◌==◌, nat_lt, if◌then◌else◌, Bool, false, List, [], ◌∷◌, length, slice_get, Option, Some, None, unwrap_or}
 use Rattle.std.specs.List.{list_any}
 use Rattle.std.specs.Option.{option_map, option_or}
 use Rattle.reo_value.specs.Op.{port_of}
@@ -11,7 +11,9 @@ use Rattle.reo_value.specs.declared.op.Way.{Way}
 use Rattle.reo_document.specs.declared.line.Line.{Line}
 use Rattle.reo_document.specs.declared.line.Line.TheVariants as line
 use Rattle.reo_document.specs.Document.{DocumentData}
-use Rattle.reo_document.specs.Placed.{port_from}
+use Rattle.reo_sentence.specs.Said.{Said, PortSaid, ChannelSaid, ComponentSaid, PutSaid, GetSaid}
+use Rattle.reo_value.specs.Lexicon.{place_of}
+use Rattle.reo_document.specs.Placed.{port_from, operation_count}
 
 abbrev pub data_of : Builder → DocumentData
 data_of b = record { lines = b.lines.items; nodes = b.nodes; texts = b.texts; people = b.people; scripts = b.scripts.items }
@@ -50,9 +52,22 @@ is_before count (Some owner) = nat_lt owner count
 abbrev pub Claims : {A : Type 0} → List (Option A) → List (Option A) → ℕ → A → Type 0
 Claims old new number item = (n : ℕ) → noted_at new n ≡ (if number == n then option_or (noted_at old n) (Some item) else noted_at old n)
 
--- the builder knows whose each port is
-abbrev pub KnowsOwners : Builder → Type 0
-KnowsOwners b = (port : ℕ) → noted_at b.owners.items port ≡ owner_of b.scripts.items port
+-- these are the first components that use the ports, and there may be so many operations more
+pub record AreOwners (owners : List (Option ℕ)) (room : ℕ) (scripts : List (List Op)) : Type 0 where
+  pub first : (port : ℕ) → noted_at owners port ≡ owner_of scripts port
+  pub left : room ≡ 100000 - operation_count scripts
+
+-- the builder knows whose each port is, and how many operations there are
+abbrev pub KnowsScripts : Builder → Type 0
+KnowsScripts b = AreOwners b.owners.items b.room b.scripts.items
+
+-- the node at which a line puts or gets, where it does
+abbrev pub node_said : DocumentData → Said → Option ℕ
+node_said d (PortSaid way node) = None
+node_said d (ChannelSaid kind a b) = None
+node_said d (ComponentSaid name) = None
+node_said d (PutSaid node value) = place_of d.nodes node
+node_said d (GetSaid node) = place_of d.nodes node
 
 -- how many ports the lines have
 abbrev pub port_count : List Line → ℕ

@@ -28,9 +28,13 @@ port_from number [] node = None
 port_from number (line.Port way at ∷ lines) node = if at == node then Some (number, way) else port_from (number + 1) lines node
 port_from number (line.Channel channel ∷ lines) node = port_from number lines node
 
+-- the first port at this node, where there is one
+abbrev pub port_at : DocumentData → Option ℕ → Option (ℕ × Way)
+port_at d node = option_and_then (λ n. port_from 0 d.lines n) node
+
 -- the first port at the node of this name
 abbrev pub port_named : DocumentData → List ℕ → Option (ℕ × Way)
-port_named d name = option_and_then (λ node. port_from 0 d.lines node) (place_of d.nodes name)
+port_named d name = port_at d (place_of d.nodes name)
 
 -- a component that is not the last one has an operation at the port
 abbrev pub is_taken : List (List Op) → ℕ → Bool
@@ -54,9 +58,13 @@ misplaced d (ComponentSaid name) =
 misplaced d (PutSaid node value) = misplaced_at d Put (port_named d node)
 misplaced d (GetSaid node) = misplaced_at d Get (port_named d node)
 
+-- the number of the first port at this node
+abbrev pub number_of_port : DocumentData → Option ℕ → ℕ
+number_of_port d node = option_map_or (λ port. port.0) (port_at d node) 0
+
 -- the number of the port at the node of this name
 abbrev pub port_number : DocumentData → List ℕ → ℕ
-port_number d name = option_map_or (λ port. port.0) (port_named d name) 0
+port_number d name = number_of_port d (place_of d.nodes name)
 
 -- the scripts with an operation more in the last of them
 abbrev pub with_operation : List (List Op) → Op → List (List Op)

@@ -1,11 +1,11 @@
 //! A document as it is read, line by line.
-ghost use Rattle.std.specs.Prelude.{◌≡◌, ◌<◌, ◌^◌, nat_le, ◌+◌, ◌≤◌, length, IfOk, OnOk};
-ghost use Rattle.reo_value.specs.Lexicon.{added};
+ghost use Rattle.std.specs.Prelude.{◌≡◌, ◌<◌, ◌^◌, ◌+◌, ◌≤◌, length, nat_le, Some, IsTrue, IfOk, OnOk};
+ghost use Rattle.reo_value.specs.Lexicon.{added, place_of};
 ghost use Rattle.reo_sentence.specs.Numbered.{number_in};
 ghost use Rattle.reo_sentence.specs.Said.{name_at, IsNameIn, AreNamesIn, said, PortSaid, ChannelSaid, ComponentSaid};
-ghost use Rattle.reo_document.specs.Placed.{port_from, port_named, is_taken, operation_count, misplaced_at, misplaced, port_number, with_operation, with_said};
+ghost use Rattle.reo_document.specs.Placed.{port_from, port_at, is_taken, operation_count, misplaced_at, misplaced, number_of_port, with_operation, with_said};
 ghost use Rattle.reo_document.specs.Spells.{empty};
-ghost use Rattle.reo_document.specs.Builder.{data_of, operation_at, noted_at, is_before, Claims, KnowsOwners, KnowsPorts};
+ghost use Rattle.reo_document.specs.Builder.{data_of, operation_at, node_said, noted_at, is_before, Claims, KnowsScripts, KnowsPorts};
 
 use crate::line::Line;
 use crate::refusal::Misplaced;
@@ -27,17 +27,21 @@ pub(crate) struct Builder {
     pub(crate) texts: Lexicon,
     pub(crate) people: Lexicon,
     pub(crate) scripts: Vec<Items<Op>>,
+    // How many operations more there may be.
+    pub(crate) room: usize,
     // The first component that uses each port, where one does.
     pub(crate) owners: Vec<Option<usize>>,
     // The first port of each node, where it has one.
     pub(crate) ports: Vec<Option<(u32, Way)>>,
     pub(crate) port_count: u32,
+    // The node of the last operation.
+    pub(crate) recent: u32,
 }
 
 impl Builder {
     pub(crate) fn new(alloc: Global) -> Builder
         ensures empty { data_of result ≡ empty }
-        ensures owners { KnowsOwners result }
+        ensures scripts { KnowsScripts result }
         ensures ports { KnowsPorts result }
     {
         Builder {
@@ -46,25 +50,65 @@ impl Builder {
             texts: Lexicon::new(alloc),
             people: Lexicon::new(alloc),
             scripts: Vec::new(alloc),
+            room: MOST_OPERATIONS,
             owners: Vec::new(alloc),
             ports: Vec::new(alloc),
             port_count: 0,
+            recent: 0,
         }
     }
 
-    /// Why the line that says this may not stand here, if so.
-    pub(crate) fn misplaced(&self, line: &[u8], sentence: &Sentence) -> Option<Misplaced>
-        requires owners { KnowsOwners self.now }
+    /// The node at which the line that says this puts or gets, where it does and there is one of this name.
+    pub(crate) fn node_said(&self, line: &[u8], sentence: &Sentence) -> Option<u32>
+        requires { AreNamesIn line.now sentence.now }
+        ensures { result ≡ node_said (data_of self.now) (said line.now sentence.now) }
+    {
+        match sentence {
+            Sentence::Port(_, _) => None,
+            Sentence::Channel(_, _, _) => None,
+            Sentence::Component(_) => None,
+            Sentence::Put(node, _) => self.node(line, *node),
+            Sentence::Get(node) => self.node(line, *node),
+        }
+    }
+
+    // The node of this name, which often is that of the last operation.
+    fn node(&self, line: &[u8], name: Name) -> Option<u32>
+        requires { IsNameIn line.now name }
+        ensures { result ≡ place_of self.now.nodes (name_at line.now name) }
+    {
+        if self.is_recent(&line[name.start as usize..name.end as usize]) {
+            return Some(self.recent);
+        }
+        self.nodes.find(name_in(line, name))
+    }
+
+    // The node of the last operation has this name.
+    fn is_recent(&self, name: &[u8]) -> bool
+        ensures { IsTrue result → place_of self.now.nodes name.now ≡ Some self.now.recent }
+    {
+        self.recent < self.nodes.len() && self.nodes.text_or_empty(self.recent).as_bytes() == name
+    }
+
+    /// Why the line that says this, of an operation at this node, may not stand here, if so.
+    pub(crate) fn misplaced(
+        &self,
+        line: &[u8],
+        sentence: &Sentence,
+        node: Option<u32>,
+    ) -> Option<Misplaced>
+        requires scripts { KnowsScripts self.now }
         requires ports { KnowsPorts self.now }
         requires names { AreNamesIn line.now sentence.now }
+        requires node { node ≡ node_said (data_of self.now) (said line.now sentence.now) }
         ensures { result ≡ misplaced (data_of self.now) (said line.now sentence.now) }
     {
         match sentence {
             Sentence::Port(_, _) => None,
             Sentence::Channel(_, _, _) => None,
             Sentence::Component(name) => self.misplaced_component(line, *name),
-            Sentence::Put(node, _) => self.misplaced_operation(line, *node, Way::Put),
-            Sentence::Get(node) => self.misplaced_operation(line, *node, Way::Get),
+            Sentence::Put(_, _) => self.misplaced_at(self.port(node), Way::Put),
+            Sentence::Get(_) => self.misplaced_at(self.port(node), Way::Get),
         }
     }
 
@@ -81,22 +125,12 @@ impl Builder {
         None
     }
 
-    fn misplaced_operation(&self, line: &[u8], node: Name, way: Way) -> Option<Misplaced>
-        requires owners { KnowsOwners self.now }
-        requires ports { KnowsPorts self.now }
-        requires name { IsNameIn line.now node }
-        ensures { result ≡ misplaced_at (data_of self.now) way (port_named (data_of self.now) (name_at line.now node)) }
-    {
-        self.misplaced_at(self.port(name_in(line, node)), way)
-    }
-
-    // The first port at the node of this name.
-    fn port(&self, name: &str) -> Option<(u32, Way)>
+    // The first port at this node.
+    fn port(&self, node: Option<u32>) -> Option<(u32, Way)>
         requires { KnowsPorts self.now }
-        ensures { result ≡ port_named (data_of self.now) name.now }
+        ensures { result ≡ port_at (data_of self.now) node }
     {
-        let node = self.nodes.find(name)?;
-        self.port_at(node)
+        self.port_at(node?)
     }
 
     // The first port at a node.
@@ -111,7 +145,7 @@ impl Builder {
     }
 
     fn misplaced_at(&self, port: Option<(u32, Way)>, way: Way) -> Option<Misplaced>
-        requires { KnowsOwners self.now }
+        requires { KnowsScripts self.now }
         ensures { result ≡ misplaced_at (data_of self.now) way port }
     {
         let Some((number, other)) = port else {
@@ -123,15 +157,23 @@ impl Builder {
         if self.is_taken(number) {
             return Some(Misplaced::PortShared);
         }
-        if is_full(self.scripts.as_slice()) {
+        if self.is_full() {
             return Some(Misplaced::TooManyOps);
         }
         None
     }
 
+    // There are as many operations as a document may have.
+    fn is_full(&self) -> bool
+        requires { KnowsScripts self.now }
+        ensures { result ≡ nat_le 100000 (operation_count self.now.scripts.items) }
+    {
+        self.room == 0
+    }
+
     // A component that is not the last one has an operation at the port.
     fn is_taken(&self, port: u32) -> bool
-        requires { KnowsOwners self.now }
+        requires { KnowsScripts self.now }
         ensures { result ≡ is_taken self.now.scripts.items port }
     {
         is_before(self.scripts.len().saturating_sub(1), self.owner(port))
@@ -152,15 +194,17 @@ impl Builder {
         alloc: Global,
         line: &[u8],
         sentence: Sentence,
+        node: Option<u32>,
     ) -> Result<(), AllocError>
         requires room { length self.old.lines.items < 2 ^ 31 }
         requires nodes { length self.old.nodes + 2 ≤ 16777216 }
         requires people { length self.old.people < 16777216 }
-        requires owners { KnowsOwners self.old }
+        requires scripts { KnowsScripts self.old }
         requires ports { KnowsPorts self.old }
         requires names { AreNamesIn line.now sentence }
+        requires node { node ≡ node_said (data_of self.old) (said line.now sentence) }
         ensures exact { OnOk result (data_of self.new ≡ with_said (data_of self.old) (said line.now sentence)) }
-        ensures owners { OnOk result (KnowsOwners self.new) }
+        ensures scripts { OnOk result (KnowsScripts self.new) }
         ensures ports { OnOk result (KnowsPorts self.new) }
         ensures lines { OnOk result (length self.new.lines.items ≤ length self.old.lines.items + 1) }
     {
@@ -170,14 +214,8 @@ impl Builder {
                 self.add_channel(alloc, kind, name_in(line, a), name_in(line, b))
             }
             Sentence::Component(name) => self.add_component(alloc, name_in(line, name)),
-            Sentence::Put(node, value) => {
-                let port = self.port_number(name_in(line, node));
-                self.add_operation(port, Some(value))
-            }
-            Sentence::Get(node) => {
-                let port = self.port_number(name_in(line, node));
-                self.add_operation(port, None)
-            }
+            Sentence::Put(_, value) => self.add_operation(node, Some(value)),
+            Sentence::Get(_) => self.add_operation(node, None),
         }
     }
 
@@ -185,10 +223,10 @@ impl Builder {
         requires room { length self.old.nodes < 16777216 }
         requires lines { length self.old.lines.items < 2 ^ 31 }
         requires short { length node.now ≤ 64 }
-        requires owners { KnowsOwners self.old }
+        requires scripts { KnowsScripts self.old }
         requires ports { KnowsPorts self.old }
         ensures exact { OnOk result (data_of self.new ≡ with_said (data_of self.old) (PortSaid way node.now)) }
-        ensures owners { OnOk result (KnowsOwners self.new) }
+        ensures scripts { OnOk result (KnowsScripts self.new) }
         ensures ports { OnOk result (KnowsPorts self.new) }
         ensures lines { OnOk result (length self.new.lines.items ≤ length self.old.lines.items + 1) }
     {
@@ -203,10 +241,10 @@ impl Builder {
         requires room { length self.old.nodes + 2 ≤ 16777216 }
         requires short { length a.now ≤ 64 }
         requires also { length b.now ≤ 64 }
-        requires owners { KnowsOwners self.old }
+        requires scripts { KnowsScripts self.old }
         requires ports { KnowsPorts self.old }
         ensures exact { OnOk result (data_of self.new ≡ with_said (data_of self.old) (ChannelSaid kind a.now b.now)) }
-        ensures owners { OnOk result (KnowsOwners self.new) }
+        ensures scripts { OnOk result (KnowsScripts self.new) }
         ensures ports { OnOk result (KnowsPorts self.new) }
         ensures lines { OnOk result (length self.new.lines.items ≤ length self.old.lines.items + 1) }
     {
@@ -223,10 +261,10 @@ impl Builder {
     fn add_component(&mut self, alloc: Global, name: &str) -> Result<(), AllocError>
         requires room { length self.old.people < 16777216 }
         requires short { length name.now ≤ 64 }
-        requires owners { KnowsOwners self.old }
+        requires scripts { KnowsScripts self.old }
         requires ports { KnowsPorts self.old }
         ensures exact { OnOk result (data_of self.new ≡ with_said (data_of self.old) (ComponentSaid name.now)) }
-        ensures owners { OnOk result (KnowsOwners self.new) }
+        ensures scripts { OnOk result (KnowsScripts self.new) }
         ensures ports { OnOk result (KnowsPorts self.new) }
         ensures lines { OnOk result (self.new.lines.items ≡ self.old.lines.items) }
     {
@@ -235,29 +273,32 @@ impl Builder {
         Ok(())
     }
 
-    // Adds an operation to the last script.
-    fn add_operation(&mut self, port: u32, value: Option<Value>) -> Result<(), AllocError>
-        requires owners { KnowsOwners self.old }
+    // Adds an operation at the first port of the node to the last script.
+    fn add_operation(&mut self, node: Option<u32>, value: Option<Value>) -> Result<(), AllocError>
+        requires scripts { KnowsScripts self.old }
         requires ports { KnowsPorts self.old }
-        ensures exact { OnOk result (data_of self.new ≡ record (data_of self.old) { scripts = with_operation self.old.scripts.items (operation_at port value) }) }
-        ensures owners { OnOk result (KnowsOwners self.new) }
+        ensures exact { OnOk result (data_of self.new ≡ record (data_of self.old) { scripts = with_operation self.old.scripts.items (operation_at (number_of_port (data_of self.old) node) value) }) }
+        ensures scripts { OnOk result (KnowsScripts self.new) }
         ensures ports { OnOk result (KnowsPorts self.new) }
         ensures lines { OnOk result (self.new.lines.items ≡ self.old.lines.items) }
     {
         if self.scripts.is_empty() {
             return Ok(());
         }
+        let port = self.port_number(node);
         let last = self.scripts.len() - 1;
+        self.recent = node.unwrap_or(0);
         push_last(&mut self.scripts, port, value)?;
+        self.room = self.room.saturating_sub(1);
         claim(&mut self.owners, port, last)
     }
 
-    // The number of the first port at the node of this name, or 0 where there is none.
-    fn port_number(&self, name: &str) -> u32
+    // The number of the first port at the node, or 0 where there is none.
+    fn port_number(&self, node: Option<u32>) -> u32
         requires { KnowsPorts self.now }
-        ensures { result ≡ port_number (data_of self.now) name.now }
+        ensures { result ≡ number_of_port (data_of self.now) node }
     {
-        match self.port(name) {
+        match self.port(node) {
             Some((number, _)) => number,
             None => 0,
         }
@@ -350,18 +391,4 @@ fn claim_port(
     }
     ports[node] = ports[node].or(Some(port));
     Ok(())
-}
-
-// There are as many operations as a document may have.
-fn is_full(scripts: &[Items<Op>]) -> bool
-    ensures { result ≡ nat_le 100000 (operation_count scripts.now) }
-{
-    let mut room = MOST_OPERATIONS;
-    for script in scripts {
-        if script.len() >= room {
-            return true;
-        }
-        room -= script.len();
-    }
-    false
 }

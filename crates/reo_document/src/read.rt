@@ -4,7 +4,7 @@ ghost use Rattle.reo_token.specs.Cut.{cut, IsWithin};
 ghost use Rattle.reo_token.specs.declared.token.End.TheVariants.{Over as IsOver};
 ghost use Rattle.reo_sentence.specs.LineReading.{place_of};
 ghost use Rattle.reo_document.specs.Spells.{place_in, refusal_at, Leads, LinesLead, Goes, Spells};
-ghost use Rattle.reo_document.specs.Builder.{data_of, HasRoom, KnowsOwners, KnowsPorts};
+ghost use Rattle.reo_document.specs.Builder.{data_of, HasRoom, KnowsScripts, KnowsPorts};
 ghost use Rattle.reo_document.specs.Reading.{StopsWith, StopsIn, IsRefusalOf};
 ghost use Rattle.reo_document.specs.Lines.{lines_of};
 
@@ -27,10 +27,10 @@ impl Builder {
         requires short { length line.now < 2 ^ 31 }
         requires utf8 { IsUtf8 line.now }
         requires room { HasRoom (data_of self.old) (length line.now) }
-        requires owners { KnowsOwners self.old }
+        requires scripts { KnowsScripts self.old }
         requires ports { KnowsPorts self.old }
         ensures goes { OnOk result (Leads (data_of self.old) number line.now (Goes (data_of self.new))) }
-        ensures owners { OnOk result (KnowsOwners self.new) }
+        ensures scripts { OnOk result (KnowsScripts self.new) }
         ensures ports { OnOk result (KnowsPorts self.new) }
         ensures stops { IfErr result (StopsWith (data_of self.old) number line.now) }
         ensures lines { OnOk result (length self.new.lines.items ≤ length self.old.lines.items + 1) }
@@ -63,13 +63,13 @@ impl Builder {
         requires short { length line.now < 2 ^ 31 }
         requires utf8 { IsUtf8 line.now }
         requires room { HasRoom (data_of self.old) (length line.now) }
-        requires owners { KnowsOwners self.old }
+        requires scripts { KnowsScripts self.old }
         requires ports { KnowsPorts self.old }
         requires cut { (tokens.now, IsOver) ≡ cut 512 0 line.now }
         requires within { All (IsWithin (length line.now)) tokens.now }
         requires some { tokens.now ≢ [] }
         ensures goes { OnOk result (Leads (data_of self.old) number line.now (Goes (data_of self.new))) }
-        ensures owners { OnOk result (KnowsOwners self.new) }
+        ensures scripts { OnOk result (KnowsScripts self.new) }
         ensures ports { OnOk result (KnowsPorts self.new) }
         ensures stops { IfErr result (StopsWith (data_of self.old) number line.now) }
         ensures lines { OnOk result (length self.new.lines.items ≤ length self.old.lines.items + 1) }
@@ -77,12 +77,15 @@ impl Builder {
     {
         let place = self.place();
         match read_line(alloc, line, tokens, place, &mut self.texts) {
-            Ok(sentence) => match self.misplaced(line, &sentence) {
-                Some(why) => Err(refusal_at(number, why)),
-                None => self
-                    .add(alloc, line, sentence)
-                    .map_err(|_| TextRefusal::NoMemory),
-            },
+            Ok(sentence) => {
+                let node = self.node_said(line, &sentence);
+                match self.misplaced(line, &sentence, node) {
+                    Some(why) => Err(refusal_at(number, why)),
+                    None => self
+                        .add(alloc, line, sentence, node)
+                        .map_err(|_| TextRefusal::NoMemory),
+                }
+            }
             Err(LineRefusal::Syntax(column)) => Err(TextRefusal::Syntax(number, column)),
             Err(LineRefusal::NumberRange) => Err(TextRefusal::NumberRange(number)),
             Err(LineRefusal::TextLong) => Err(TextRefusal::TextLong(number)),
@@ -135,7 +138,7 @@ fn read_lines(alloc: Global, builder: &mut Builder, bytes: &[u8]) -> Result<(), 
     requires utf8 { IsUtf8 bytes.now }
     requires none { length builder.old.lines.items ≡ 0 }
     requires room { HasRoom (data_of builder.old) (length bytes.now) }
-    requires owners { KnowsOwners builder.old }
+    requires scripts { KnowsScripts builder.old }
     requires ports { KnowsPorts builder.old }
     ensures goes { OnOk result (LinesLead (data_of builder.old) 1 (lines_of bytes.now) (Goes (data_of builder.new))) }
     ensures stops { IfErr result (StopsIn (data_of builder.old) 1 (lines_of bytes.now)) }

@@ -23,7 +23,7 @@ lines-preserved c = record {
       leads_next (data_of c.args.builder.now) (data_of c.lines.builder) (data_of c.read.new.self) c.args.bytes.now c.lines.rest.now c.next_line.result.0.now c.in-Some.more.now c.lines.number c.lines.invariant.on
       (c.next_line.ensures.exact ∙ ap (λ m. c.next_line.result.0.now ∷ lines_behind (option_copied m)) c.in-Some.is)
       (omega (arith, subst (λ m. IfSome m (λ r. length c.next_line.result.0.now + length r.now < length c.lines.rest.now)) c.in-Some.is c.next_line.ensures.fewer)) c.in_ok-read.ensures.goes c.in_ok-read.ensures.lines;
-  owners = c.in_ok-read.ensures.owners;
+  scripts = c.in_ok-read.ensures.scripts;
   ports = c.in_ok-read.ensures.ports;
   room =
       let fewer : length c.next_line.result.0.now + length c.in-Some.more.now < length c.lines.rest.now =
