@@ -9,3 +9,4 @@ pub mod PortLemmas
 pub mod BuilderLemmas
 pub mod ReadLemmas
 pub mod RoomLemmas
+pub mod PlainLemmas

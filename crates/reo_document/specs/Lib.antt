@@ -5,3 +5,4 @@ pub mod Spells
 pub mod Laws
 pub mod Builder
 pub mod Reading
+pub mod Plain

@@ -1,9 +1,14 @@
 -- Where the reading of a line stops.
-use Rattle.std.specs.Prelude.{ℕ, List}
+use Rattle.std.specs.Prelude.{◌≡◌, ◌≢◌, ℕ, List, []}
+use Rattle.reo_token.specs.declared.token.Token.{Token}
+use Rattle.reo_token.specs.declared.token.End.TheVariants.{Over}
+use Rattle.reo_token.specs.Cut.{cut}
+use Rattle.reo_sentence.specs.Said.{Said}
+use Rattle.reo_sentence.specs.ReadLine.{SaysIt}
 use Rattle.reo_document.specs.declared.refusal.TextRefusal.{TextRefusal}
 use Rattle.reo_document.specs.declared.refusal.TextRefusal.TheVariants.{NoMemory}
 use Rattle.reo_document.specs.Document.{DocumentData}
-use Rattle.reo_document.specs.Spells.{Leads, LinesLead, Stops, IsRefusedAs}
+use Rattle.reo_document.specs.Spells.{place_in, Leads, LinesLead, Stops, IsRefusedAs}
 
 -- the line leads to the refusal; want of memory tells nothing
 abbrev pub StopsWith : DocumentData → ℕ → List ℕ → TextRefusal → Type 0
@@ -18,3 +23,11 @@ StopsIn d number lines refusal = LinesLead d number lines (Stops refusal)
 abbrev pub IsRefusalOf : List ℕ → TextRefusal → Type 0
 IsRefusalOf bytes NoMemory = Unit {0}
 IsRefusalOf bytes refusal = IsRefusedAs bytes refusal
+
+-- behind the document so far the line says this, and the texts are those that are known then
+pub record HasSaid (d : DocumentData) (line : List ℕ) (now : DocumentData) (it : Said) : Type 0 where
+  pub tokens : List Token
+  pub cut_so : (tokens, Over) ≡ cut 512 0 line
+  pub some : tokens ≢ []
+  pub says : SaysIt (place_in d) line tokens d.texts now.texts it
+  pub same : now ≡ record d { texts = now.texts }

@@ -6,6 +6,7 @@ mod document;
 pub mod laws;
 mod line;
 mod lines;
+mod plain;
 mod read;
 mod refusal;
 

@@ -1,17 +1,23 @@
 //! Reading the lines of a document.
-ghost use Rattle.std.specs.Prelude.{◌≡◌, ◌≢◌, ℕ, ◌+◌, ◌<◌, ◌≤◌, ◌^◌, [], length, All, IsUtf8, OnOk, IfOk, IfErr};
+ghost use Rattle.std.specs.Prelude.{◌≡◌, ◌≢◌, ℕ, ◌+◌, ◌<◌, ◌≤◌, ◌^◌, [], length, All, IsUtf8, OnOk, IfOk, IfErr, IfSome};
 ghost use Rattle.reo_token.specs.Cut.{cut, IsWithin};
 ghost use Rattle.reo_token.specs.declared.token.End.TheVariants.{Over as IsOver};
+ghost use Rattle.reo_grammar.specs.Lines.{Scripts as BehindComponents};
+ghost use Rattle.reo_sentence.specs.Said.{AreNamesIn, said};
 ghost use Rattle.reo_sentence.specs.LineReading.{place_of};
+ghost use Rattle.reo_document.specs.Document.{DocumentData};
+ghost use Rattle.reo_document.specs.Placed.{with_said};
+ghost use Rattle.reo_document.specs.Plain.{SaysPlainly};
 ghost use Rattle.reo_document.specs.Spells.{place_in, refusal_at, Leads, LinesLead, Goes, Spells};
 ghost use Rattle.reo_document.specs.Builder.{data_of, HasRoom, KnowsScripts, KnowsPorts};
-ghost use Rattle.reo_document.specs.Reading.{StopsWith, StopsIn, IsRefusalOf};
+ghost use Rattle.reo_document.specs.Reading.{StopsWith, StopsIn, IsRefusalOf, HasSaid};
 ghost use Rattle.reo_document.specs.Lines.{lines_of};
 
 use crate::builder::Builder;
 use crate::lines::next_line;
+use crate::plain::plain_operation;
 use crate::refusal::{Misplaced, TextRefusal};
-use reo_sentence::{LineRefusal, Place, read_line};
+use reo_sentence::{LineRefusal, Place, Sentence, read_line};
 use reo_token::{End, Token, cut_line};
 use std::alloc::Global;
 
@@ -36,6 +42,9 @@ impl Builder {
         ensures lines { OnOk result (length self.new.lines.items ≤ length self.old.lines.items + 1) }
         ensures room { OnOk result ((more : ℕ) → HasRoom (data_of self.old) (length line.now + 1 + more) → HasRoom (data_of self.new) more) }
     {
+        if let Some(sentence) = self.plain(line) {
+            return self.stand(alloc, line, sentence, number);
+        }
         let Ok(end) = cut_line(tokens, line) else {
             return Err(TextRefusal::NoMemory);
         };
@@ -77,20 +86,54 @@ impl Builder {
     {
         let place = self.place();
         match read_line(alloc, line, tokens, place, &mut self.texts) {
-            Ok(sentence) => {
-                let node = self.node_said(line, &sentence);
-                match self.misplaced(line, &sentence, node) {
-                    Some(why) => Err(refusal_at(number, why)),
-                    None => self
-                        .add(alloc, line, sentence, node)
-                        .map_err(|_| TextRefusal::NoMemory),
-                }
-            }
+            Ok(sentence) => self.stand(alloc, line, sentence, number),
             Err(LineRefusal::Syntax(column)) => Err(TextRefusal::Syntax(number, column)),
             Err(LineRefusal::NumberRange) => Err(TextRefusal::NumberRange(number)),
             Err(LineRefusal::TextLong) => Err(TextRefusal::TextLong(number)),
             Err(LineRefusal::NoMemory) => Err(TextRefusal::NoMemory),
         }
+    }
+
+    // Adds what the line of this number says, where it may stand here.
+    fn stand(
+        &mut self,
+        alloc: Global,
+        line: &[u8],
+        sentence: Sentence,
+        number: u32,
+    ) -> Result<(), TextRefusal>
+        requires room { length self.old.lines.items < 2 ^ 31 }
+        requires nodes { length self.old.nodes + 2 ≤ 16777216 }
+        requires people { length self.old.people < 16777216 }
+        requires scripts { KnowsScripts self.old }
+        requires ports { KnowsPorts self.old }
+        requires names { AreNamesIn line.now sentence }
+        ensures exact { OnOk result (data_of self.new ≡ with_said (data_of self.old) (said line.now sentence)) }
+        ensures goes { (d : DocumentData) → HasSaid d line.now (data_of self.old) (said line.now sentence) → OnOk result (Leads d number line.now (Goes (data_of self.new))) }
+        ensures stops { (d : DocumentData) → HasSaid d line.now (data_of self.old) (said line.now sentence) → IfErr result (StopsWith d number line.now) }
+        ensures scripts { OnOk result (KnowsScripts self.new) }
+        ensures ports { OnOk result (KnowsPorts self.new) }
+        ensures lines { OnOk result (length self.new.lines.items ≤ length self.old.lines.items + 1) }
+    {
+        let node = self.node_said(line, &sentence);
+        match self.misplaced(line, &sentence, node) {
+            Some(why) => Err(refusal_at(number, why)),
+            None => self
+                .add(alloc, line, sentence, node)
+                .map_err(|_| TextRefusal::NoMemory),
+        }
+    }
+
+    // The operation that a line behind a component line says in its plainest spelling.
+    fn plain(&self, line: &[u8]) -> Option<Sentence>
+        ensures says { IfSome result (SaysPlainly line.now) }
+        ensures names { IfSome result (AreNamesIn line.now) }
+        ensures place { IfSome result (λ _. place_in (data_of self.now) ≡ BehindComponents) }
+    {
+        if self.people.is_empty() {
+            return None;
+        }
+        plain_operation(line)
     }
 
     // Where the next line stands.
