@@ -15,13 +15,17 @@ use Rattle.std.specs.Prelude.{IsUtf8}
 use Rattle.reo_document.specs.declared.refusal.TextRefusal.TheVariants as text_refusal
 use Rattle.reo_document.specs.Spells.{empty}
 use Rattle.reo_document.proofs.SpellLemmas.{refused}
-use Rattle.reo_document.specs.Reading.{StopsWith, StopsIn, IsRefusalOf}
+use Rattle.reo_value.specs.Lexicon.{place_of}
+use Rattle.reo_value.specs.declared.op.Way.{Way}
+use Rattle.reo_value.specs.declared.value.Value.{Value}
+use Rattle.reo_document.specs.Builder.{operation_at, operation_said, way_with}
+use Rattle.reo_document.specs.Reading.{StopsWith, StopsIn, IsRefusalOf, HasSaid}
 use Rattle.std.specs.Prelude.{Result, Ok, Err}
 use Rattle.std.specs.Result.{OnOk, IfErr, IsErrAnd, is_ok}
 use Rattle.std.proofs.lemmas.Bool.{false≢true, eqb-true}
 use Rattle.reo_document.specs.declared.refusal.TextRefusal.TheVariants.{Syntax, LineLarge, NumberRange, TextLong}
 use Rattle.reo_document.specs.Document.{DocumentData}
-use Rattle.reo_document.specs.Placed.{misplaced, with_said}
+use Rattle.reo_document.specs.Placed.{port_at, port_named, port_number, number_at, with_operation, misplaced_at, misplaced, with_said}
 use Rattle.reo_document.specs.Spells.{place_in, Outcome, Goes, Stops, outcome_of, outcome_by, placed, refusal_at, tokens_in, Leads, LinesLead, bad, large, skipped, wrong, says}
 use Rattle.reo_document.specs.Lines.{lines_of}
 use Rattle.reo_document.specs.declared.refusal.TextRefusal.{TextRefusal}
@@ -163,3 +167,32 @@ refusal_of d bytes refusal is utf8 stops = refused bytes refusal utf8 (subst (λ
 pub passed_on : {V : Type 0} (result : Result V TextRefusal) (e : TextRefusal) (P : TextRefusal → Type 0) → IsErrAnd result (λ b. b ≡ e) → P e → IfErr result P
 passed_on (Ok v) e P is p = tt
 passed_on (Err b) e P is p = subst P (sym is) p
+
+-- What becomes of a line that says something, by whether it may stand here.
+pub goes_as : (d now next : DocumentData) (number : ℕ) (line : List ℕ) (it : Said) → None ≡ misplaced now it → next ≡ with_said now it → HasSaid d line now it → Leads d number line (Goes next)
+goes_as d now next number line it placed_so with_it has =
+    leads_with d next number line has.tokens now.texts it (record { is = has.cut_so; some = has.some }) has.says (placed_so ∙ ap (λ e. misplaced e it) has.same) (with_it ∙ ap (λ e. with_said e it) has.same)
+
+pub stops_as : (d now : DocumentData) (number : ℕ) (line : List ℕ) (it : Said) (why : Misplaced) → Some why ≡ misplaced now it → HasSaid d line now it → StopsWith d number line (refusal_at number why)
+stops_as d now number line it why placed_so has =
+    stops_why d number line why
+    (leads_misplaced d number line has.tokens now.texts it why (record { is = has.cut_so; some = has.some }) has.says (placed_so ∙ ap (λ e. misplaced e it) has.same))
+
+-- Operations, by what they exchange.
+pub operation_misplaced : (d : DocumentData) (name : List ℕ) (value : Option Value) (way : Way) (node : Option ℕ) (port : Option (ℕ × Way)) → way ≡ way_with value → node ≡ place_of d.nodes name
+    → port ≡ port_at d node → misplaced_at d way port ≡ misplaced d (operation_said name value)
+operation_misplaced d name value way node port goes stands is =
+    ap (λ w. misplaced_at d w port) goes ∙ ap (misplaced_at d (way_with value)) (is ∙ ap (port_at d) stands) ∙ by value
+  where
+    by : (v : Option Value) → misplaced_at d (way_with v) (port_named d name) ≡ misplaced d (operation_said name v)
+    by None = refl
+    by (Some x) = refl
+
+pub operation_with : (d : DocumentData) (name : List ℕ) (value : Option Value) (node : Option ℕ) (port : Option (ℕ × Way)) → node ≡ place_of d.nodes name → port ≡ port_at d node
+    → record d { scripts = with_operation d.scripts (operation_at (number_at port) value) } ≡ with_said d (operation_said name value)
+operation_with d name value node port stands is =
+    ap (λ p. record d { scripts = with_operation d.scripts (operation_at (number_at p) value) }) (is ∙ ap (port_at d) stands) ∙ by value
+  where
+    by : (v : Option Value) → record d { scripts = with_operation d.scripts (operation_at (port_number d name) v) } ≡ with_said d (operation_said name v)
+    by None = refl
+    by (Some x) = refl

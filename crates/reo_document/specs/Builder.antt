@@ -11,8 +11,8 @@ use Rattle.reo_value.specs.declared.op.Way.{Way}
 use Rattle.reo_document.specs.declared.line.Line.{Line}
 use Rattle.reo_document.specs.declared.line.Line.TheVariants as line
 use Rattle.reo_document.specs.Document.{DocumentData}
-use Rattle.reo_sentence.specs.Said.{Said, PortSaid, ChannelSaid, ComponentSaid, PutSaid, GetSaid}
-use Rattle.reo_value.specs.Lexicon.{place_of}
+use Rattle.reo_value.specs.declared.op.Way.TheVariants.{Put, Get}
+use Rattle.reo_sentence.specs.Said.{Said, PutSaid, GetSaid}
 use Rattle.reo_document.specs.Placed.{port_from, operation_count}
 
 abbrev pub data_of : Builder → DocumentData
@@ -61,13 +61,14 @@ pub record AreOwners (owners : List (Option ℕ)) (room : ℕ) (scripts : List (
 abbrev pub KnowsScripts : Builder → Type 0
 KnowsScripts b = AreOwners b.owners.items b.room b.scripts.items
 
--- the node at which a line puts or gets, where it does
-abbrev pub node_said : DocumentData → Said → Option ℕ
-node_said d (PortSaid way node) = None
-node_said d (ChannelSaid kind a b) = None
-node_said d (ComponentSaid name) = None
-node_said d (PutSaid node value) = place_of d.nodes node
-node_said d (GetSaid node) = place_of d.nodes node
+-- what a line says with a put of the value at a node, or a get there, and which way that is
+abbrev pub operation_said : List ℕ → Option Value → Said
+operation_said node (Some value) = PutSaid node value
+operation_said node None = GetSaid node
+
+abbrev pub way_with : Option Value → Way
+way_with (Some value) = Put
+way_with None = Get
 
 -- how many ports the lines have
 abbrev pub port_count : List Line → ℕ

@@ -58,13 +58,13 @@ misplaced d (ComponentSaid name) =
 misplaced d (PutSaid node value) = misplaced_at d Put (port_named d node)
 misplaced d (GetSaid node) = misplaced_at d Get (port_named d node)
 
--- the number of the first port at this node
-abbrev pub number_of_port : DocumentData → Option ℕ → ℕ
-number_of_port d node = option_map_or (λ port. port.0) (port_at d node) 0
+-- the number of a port, or 0 where there is none
+abbrev pub number_at : Option (ℕ × Way) → ℕ
+number_at port = option_map_or (λ p. p.0) port 0
 
 -- the number of the port at the node of this name
 abbrev pub port_number : DocumentData → List ℕ → ℕ
-port_number d name = number_of_port d (place_of d.nodes name)
+port_number d name = number_at (port_named d name)
 
 -- the scripts with an operation more in the last of them
 abbrev pub with_operation : List (List Op) → Op → List (List Op)

@@ -2,15 +2,15 @@
 ghost use Rattle.std.specs.Prelude.{◌≡◌, ◌<◌, ◌^◌, ◌+◌, ◌≤◌, length, nat_le, Some, IsTrue, IfOk, OnOk};
 ghost use Rattle.reo_value.specs.Lexicon.{added, place_of};
 ghost use Rattle.reo_sentence.specs.Numbered.{number_in};
-ghost use Rattle.reo_sentence.specs.Said.{name_at, IsNameIn, AreNamesIn, said, PortSaid, ChannelSaid, ComponentSaid};
-ghost use Rattle.reo_document.specs.Placed.{port_from, port_at, is_taken, operation_count, misplaced_at, misplaced, number_of_port, with_operation, with_said};
+ghost use Rattle.reo_sentence.specs.Said.{name_at, IsNameIn, PortSaid, ChannelSaid, ComponentSaid};
+ghost use Rattle.reo_document.specs.Placed.{port_from, port_at, is_taken, operation_count, misplaced_at, misplaced, number_at, with_operation, with_said};
 ghost use Rattle.reo_document.specs.Spells.{empty};
-ghost use Rattle.reo_document.specs.Builder.{data_of, operation_at, node_said, noted_at, is_before, Claims, KnowsScripts, KnowsPorts};
+ghost use Rattle.reo_document.specs.Builder.{data_of, operation_at, noted_at, is_before, Claims, KnowsScripts, KnowsPorts};
 
 use crate::line::Line;
 use crate::refusal::Misplaced;
 use reo_net::{Channel, Kind};
-use reo_sentence::{Name, Sentence};
+use reo_sentence::Name;
 use reo_value::{LexRefusal, Lexicon, Op, Value, Way};
 use sqlite_items::Items;
 use std::alloc::{AllocError, Global};
@@ -58,22 +58,8 @@ impl Builder {
         }
     }
 
-    /// The node at which the line that says this puts or gets, where it does and there is one of this name.
-    pub(crate) fn node_said(&self, line: &[u8], sentence: &Sentence) -> Option<u32>
-        requires { AreNamesIn line.now sentence.now }
-        ensures { result ≡ node_said (data_of self.now) (said line.now sentence.now) }
-    {
-        match sentence {
-            Sentence::Port(_, _) => None,
-            Sentence::Channel(_, _, _) => None,
-            Sentence::Component(_) => None,
-            Sentence::Put(node, _) => self.node(line, *node),
-            Sentence::Get(node) => self.node(line, *node),
-        }
-    }
-
-    // The node of this name, which often is that of the last operation.
-    fn node(&self, line: &[u8], name: Name) -> Option<u32>
+    /// The node of this name, which often is that of the last operation.
+    pub(crate) fn node(&self, line: &[u8], name: Name) -> Option<u32>
         requires { IsNameIn line.now name }
         ensures { result ≡ place_of self.now.nodes (name_at line.now name) }
     {
@@ -90,29 +76,8 @@ impl Builder {
         self.recent < self.nodes.len() && self.nodes.text_or_empty(self.recent).as_bytes() == name
     }
 
-    /// Why the line that says this, of an operation at this node, may not stand here, if so.
-    pub(crate) fn misplaced(
-        &self,
-        line: &[u8],
-        sentence: &Sentence,
-        node: Option<u32>,
-    ) -> Option<Misplaced>
-        requires scripts { KnowsScripts self.now }
-        requires ports { KnowsPorts self.now }
-        requires names { AreNamesIn line.now sentence.now }
-        requires node { node ≡ node_said (data_of self.now) (said line.now sentence.now) }
-        ensures { result ≡ misplaced (data_of self.now) (said line.now sentence.now) }
-    {
-        match sentence {
-            Sentence::Port(_, _) => None,
-            Sentence::Channel(_, _, _) => None,
-            Sentence::Component(name) => self.misplaced_component(line, *name),
-            Sentence::Put(_, _) => self.misplaced_at(self.port(node), Way::Put),
-            Sentence::Get(_) => self.misplaced_at(self.port(node), Way::Get),
-        }
-    }
-
-    fn misplaced_component(&self, line: &[u8], name: Name) -> Option<Misplaced>
+    /// Why no component of this name may begin here, if so.
+    pub(crate) fn misplaced_component(&self, line: &[u8], name: Name) -> Option<Misplaced>
         requires { IsNameIn line.now name }
         ensures { result ≡ misplaced (data_of self.now) (ComponentSaid (name_at line.now name)) }
     {
@@ -125,8 +90,8 @@ impl Builder {
         None
     }
 
-    // The first port at this node.
-    fn port(&self, node: Option<u32>) -> Option<(u32, Way)>
+    /// The first port at this node.
+    pub(crate) fn port(&self, node: Option<u32>) -> Option<(u32, Way)>
         requires { KnowsPorts self.now }
         ensures { result ≡ port_at (data_of self.now) node }
     {
@@ -144,7 +109,8 @@ impl Builder {
         }
     }
 
-    fn misplaced_at(&self, port: Option<(u32, Way)>, way: Way) -> Option<Misplaced>
+    /// Why the last component may not use this port this way, if so.
+    pub(crate) fn misplaced_at(&self, port: Option<(u32, Way)>, way: Way) -> Option<Misplaced>
         requires { KnowsScripts self.now }
         ensures { result ≡ misplaced_at (data_of self.now) way port }
     {
@@ -188,38 +154,8 @@ impl Builder {
         }
     }
 
-    /// Adds what a line says.
-    pub(crate) fn add(
-        &mut self,
-        alloc: Global,
-        line: &[u8],
-        sentence: Sentence,
-        node: Option<u32>,
-    ) -> Result<(), AllocError>
-        requires room { length self.old.lines.items < 2 ^ 31 }
-        requires nodes { length self.old.nodes + 2 ≤ 16777216 }
-        requires people { length self.old.people < 16777216 }
-        requires scripts { KnowsScripts self.old }
-        requires ports { KnowsPorts self.old }
-        requires names { AreNamesIn line.now sentence }
-        requires node { node ≡ node_said (data_of self.old) (said line.now sentence) }
-        ensures exact { OnOk result (data_of self.new ≡ with_said (data_of self.old) (said line.now sentence)) }
-        ensures scripts { OnOk result (KnowsScripts self.new) }
-        ensures ports { OnOk result (KnowsPorts self.new) }
-        ensures lines { OnOk result (length self.new.lines.items ≤ length self.old.lines.items + 1) }
-    {
-        match sentence {
-            Sentence::Port(way, node) => self.add_port(alloc, name_in(line, node), way),
-            Sentence::Channel(kind, a, b) => {
-                self.add_channel(alloc, kind, name_in(line, a), name_in(line, b))
-            }
-            Sentence::Component(name) => self.add_component(alloc, name_in(line, name)),
-            Sentence::Put(_, value) => self.add_operation(node, Some(value)),
-            Sentence::Get(_) => self.add_operation(node, None),
-        }
-    }
-
-    fn add_port(&mut self, alloc: Global, node: &str, way: Way) -> Result<(), AllocError>
+    /// Adds a port at the node of this name.
+    pub(crate) fn add_port(&mut self, alloc: Global, node: &str, way: Way) -> Result<(), AllocError>
         requires room { length self.old.nodes < 16777216 }
         requires lines { length self.old.lines.items < 2 ^ 31 }
         requires short { length node.now ≤ 64 }
@@ -237,7 +173,14 @@ impl Builder {
         Ok(())
     }
 
-    fn add_channel(&mut self, alloc: Global, kind: Kind, a: &str, b: &str) -> Result<(), AllocError>
+    /// Adds a channel from the node of one name to that of another.
+    pub(crate) fn add_channel(
+        &mut self,
+        alloc: Global,
+        kind: Kind,
+        a: &str,
+        b: &str,
+    ) -> Result<(), AllocError>
         requires room { length self.old.nodes + 2 ≤ 16777216 }
         requires short { length a.now ≤ 64 }
         requires also { length b.now ≤ 64 }
@@ -258,7 +201,8 @@ impl Builder {
         Ok(())
     }
 
-    fn add_component(&mut self, alloc: Global, name: &str) -> Result<(), AllocError>
+    /// Adds a component of this name, with an empty script.
+    pub(crate) fn add_component(&mut self, alloc: Global, name: &str) -> Result<(), AllocError>
         requires room { length self.old.people < 16777216 }
         requires short { length name.now ≤ 64 }
         requires scripts { KnowsScripts self.old }
@@ -273,11 +217,16 @@ impl Builder {
         Ok(())
     }
 
-    // Adds an operation at the first port of the node to the last script.
-    fn add_operation(&mut self, node: Option<u32>, value: Option<Value>) -> Result<(), AllocError>
+    /// Adds an operation at this port, the first one of the node, to the last script.
+    pub(crate) fn add_operation(
+        &mut self,
+        node: Option<u32>,
+        port: Option<(u32, Way)>,
+        value: Option<Value>,
+    ) -> Result<(), AllocError>
         requires scripts { KnowsScripts self.old }
         requires ports { KnowsPorts self.old }
-        ensures exact { OnOk result (data_of self.new ≡ record (data_of self.old) { scripts = with_operation self.old.scripts.items (operation_at (number_of_port (data_of self.old) node) value) }) }
+        ensures exact { OnOk result (data_of self.new ≡ record (data_of self.old) { scripts = with_operation self.old.scripts.items (operation_at (number_at port) value) }) }
         ensures scripts { OnOk result (KnowsScripts self.new) }
         ensures ports { OnOk result (KnowsPorts self.new) }
         ensures lines { OnOk result (self.new.lines.items ≡ self.old.lines.items) }
@@ -285,23 +234,22 @@ impl Builder {
         if self.scripts.is_empty() {
             return Ok(());
         }
-        let port = self.port_number(node);
+        let port = number_at(port);
         let last = self.scripts.len() - 1;
         self.recent = node.unwrap_or(0);
         push_last(&mut self.scripts, port, value)?;
         self.room = self.room.saturating_sub(1);
         claim(&mut self.owners, port, last)
     }
+}
 
-    // The number of the first port at the node, or 0 where there is none.
-    fn port_number(&self, node: Option<u32>) -> u32
-        requires { KnowsPorts self.now }
-        ensures { result ≡ number_of_port (data_of self.now) node }
-    {
-        match self.port(node) {
-            Some((number, _)) => number,
-            None => 0,
-        }
+// The number of a port, or 0 where there is none.
+fn number_at(port: Option<(u32, Way)>) -> u32
+    ensures { result ≡ number_at port }
+{
+    match port {
+        Some((number, _)) => number,
+        None => 0,
     }
 }
 
@@ -330,8 +278,8 @@ fn number(alloc: Global, names: &mut Lexicon, name: &str) -> Result<u32, AllocEr
     }
 }
 
-// The name at this place of a line.
-fn name_in(line: &[u8], name: Name) -> &str
+/// The name at this place of a line.
+pub(crate) fn name_in(line: &[u8], name: Name) -> &str
     requires { IsNameIn line.now name }
     ensures { result.now ≡ name_at line.now name }
 {

@@ -3,22 +3,23 @@ ghost use Rattle.std.specs.Prelude.{◌≡◌, ◌≢◌, ℕ, ◌+◌, ◌<◌,
 ghost use Rattle.reo_token.specs.Cut.{cut, IsWithin};
 ghost use Rattle.reo_token.specs.declared.token.End.TheVariants.{Over as IsOver};
 ghost use Rattle.reo_grammar.specs.Lines.{Scripts as BehindComponents};
-ghost use Rattle.reo_sentence.specs.Said.{AreNamesIn, said};
+ghost use Rattle.reo_sentence.specs.Said.{ComponentSaid, IsNameIn, AreNamesIn, name_at, said};
 ghost use Rattle.reo_sentence.specs.LineReading.{place_of};
 ghost use Rattle.reo_document.specs.Document.{DocumentData};
 ghost use Rattle.reo_document.specs.Placed.{with_said};
 ghost use Rattle.reo_document.specs.Plain.{SaysPlainly};
 ghost use Rattle.reo_document.specs.Spells.{place_in, refusal_at, Leads, LinesLead, Goes, Spells};
-ghost use Rattle.reo_document.specs.Builder.{data_of, HasRoom, KnowsScripts, KnowsPorts};
+ghost use Rattle.reo_document.specs.Builder.{data_of, operation_said, way_with, HasRoom, KnowsScripts, KnowsPorts};
 ghost use Rattle.reo_document.specs.Reading.{StopsWith, StopsIn, IsRefusalOf, HasSaid};
 ghost use Rattle.reo_document.specs.Lines.{lines_of};
 
-use crate::builder::Builder;
+use crate::builder::{Builder, name_in};
 use crate::lines::next_line;
 use crate::plain::plain_operation;
 use crate::refusal::{Misplaced, TextRefusal};
-use reo_sentence::{LineRefusal, Place, Sentence, read_line};
+use reo_sentence::{LineRefusal, Name, Place, Sentence, read_line};
 use reo_token::{End, Token, cut_line};
+use reo_value::{Value, Way};
 use std::alloc::Global;
 
 impl Builder {
@@ -115,11 +116,70 @@ impl Builder {
         ensures ports { OnOk result (KnowsPorts self.new) }
         ensures lines { OnOk result (length self.new.lines.items ≤ length self.old.lines.items + 1) }
     {
-        let node = self.node_said(line, &sentence);
-        match self.misplaced(line, &sentence, node) {
+        match sentence {
+            Sentence::Port(way, node) => self
+                .add_port(alloc, name_in(line, node), way)
+                .map_err(|_| TextRefusal::NoMemory),
+            Sentence::Channel(kind, a, b) => self
+                .add_channel(alloc, kind, name_in(line, a), name_in(line, b))
+                .map_err(|_| TextRefusal::NoMemory),
+            Sentence::Component(name) => self.begin(alloc, line, name, number),
+            Sentence::Put(node, value) => self.operate(line, node, Some(value), number),
+            Sentence::Get(node) => self.operate(line, node, None, number),
+        }
+    }
+
+    // Begins the script of a component of this name, where one may stand here.
+    fn begin(
+        &mut self,
+        alloc: Global,
+        line: &[u8],
+        name: Name,
+        number: u32,
+    ) -> Result<(), TextRefusal>
+        requires people { length self.old.people < 16777216 }
+        requires scripts { KnowsScripts self.old }
+        requires ports { KnowsPorts self.old }
+        requires name { IsNameIn line.now name }
+        ensures exact { OnOk result (data_of self.new ≡ with_said (data_of self.old) (ComponentSaid (name_at line.now name))) }
+        ensures goes { (d : DocumentData) → HasSaid d line.now (data_of self.old) (ComponentSaid (name_at line.now name)) → OnOk result (Leads d number line.now (Goes (data_of self.new))) }
+        ensures stops { (d : DocumentData) → HasSaid d line.now (data_of self.old) (ComponentSaid (name_at line.now name)) → IfErr result (StopsWith d number line.now) }
+        ensures scripts { OnOk result (KnowsScripts self.new) }
+        ensures ports { OnOk result (KnowsPorts self.new) }
+        ensures lines { OnOk result (self.new.lines.items ≡ self.old.lines.items) }
+    {
+        match self.misplaced_component(line, name) {
             Some(why) => Err(refusal_at(number, why)),
             None => self
-                .add(alloc, line, sentence, node)
+                .add_component(alloc, name_in(line, name))
+                .map_err(|_| TextRefusal::NoMemory),
+        }
+    }
+
+    // Adds a put of the value at the node of this name, or a get there, where it may stand here.
+    fn operate(
+        &mut self,
+        line: &[u8],
+        node: Name,
+        value: Option<Value>,
+        number: u32,
+    ) -> Result<(), TextRefusal>
+        requires scripts { KnowsScripts self.old }
+        requires ports { KnowsPorts self.old }
+        requires name { IsNameIn line.now node }
+        ensures exact { OnOk result (data_of self.new ≡ with_said (data_of self.old) (operation_said (name_at line.now node) value)) }
+        ensures goes { (d : DocumentData) → HasSaid d line.now (data_of self.old) (operation_said (name_at line.now node) value) → OnOk result (Leads d number line.now (Goes (data_of self.new))) }
+        ensures stops { (d : DocumentData) → HasSaid d line.now (data_of self.old) (operation_said (name_at line.now node) value) → IfErr result (StopsWith d number line.now) }
+        ensures scripts { OnOk result (KnowsScripts self.new) }
+        ensures ports { OnOk result (KnowsPorts self.new) }
+        ensures lines { OnOk result (self.new.lines.items ≡ self.old.lines.items) }
+    {
+        let node = self.node(line, node);
+        let port = self.port(node);
+        match self.misplaced_at(port, way_with(&value)) {
+            Some(why) => Err(refusal_at(number, why)),
+            None => self
+                .add_operation(node, port, value)
                 .map_err(|_| TextRefusal::NoMemory),
         }
     }
@@ -145,6 +205,16 @@ impl Builder {
         } else {
             Place::Scripts
         }
+    }
+}
+
+// A put has a value, and a get none.
+fn way_with(value: &Option<Value>) -> Way
+    ensures { result ≡ way_with value.now }
+{
+    match value {
+        Some(_) => Way::Put,
+        None => Way::Get,
     }
 }
 

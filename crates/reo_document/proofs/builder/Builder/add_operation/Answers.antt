@@ -13,8 +13,8 @@ returns-clause-scripts c =
     let place : c.len-last.result - 1 ≡ length c.args.self.now.scripts.items - 1 = omega (arith, is) in
     OnOk-same c.claim.result c.claim.result refl
     (λ claims. record {
-      first = owners_claimed scripts c.push_last.new.scripts.items c.args.self.now.owners.items c.claim.new.owners.items (operation_at c.port_number-port.result c.args.value) c.port_number-port.result (c.len-last.result - 1)
-          (port_of-operation_at c.port_number-port.result c.args.value) is place c.in_ok-push_last.ensures claims c.requires.scripts.first;
-      left = less_room scripts c.push_last.new.scripts.items (operation_at c.port_number-port.result c.args.value) c.args.self.now.room _ (c.len-last.result - 1) is place c.in_ok-push_last.ensures c.saturating_sub-self.ensures c.requires.scripts.left;
+      first = owners_claimed scripts c.push_last.new.scripts.items c.args.self.now.owners.items c.claim.new.owners.items (operation_at c.number_at-port.result c.args.value) c.number_at-port.result (c.len-last.result - 1)
+          (port_of-operation_at c.number_at-port.result c.args.value) is place c.in_ok-push_last.ensures claims c.requires.scripts.first;
+      left = less_room scripts c.push_last.new.scripts.items (operation_at c.number_at-port.result c.args.value) c.args.self.now.room _ (c.len-last.result - 1) is place c.in_ok-push_last.ensures c.saturating_sub-self.ensures c.requires.scripts.left;
     })
     c.claim.ensures

@@ -1,25 +1,25 @@
-use Rattle.std.proofs.Common.{sym, ap, subst, ◌∙◌}
-use Rattle.reo_sentence.specs.Said.{said}
+use Rattle.std.proofs.Common.{refl, ap, subst, ◌∙◌}
+use Rattle.reo_sentence.specs.Said.{PortSaid, ChannelSaid, name_at, said}
 use Rattle.reo_document.specs.Builder.{data_of}
-use Rattle.reo_document.specs.Placed.{misplaced, with_said}
-use Rattle.reo_document.specs.Reading.{StopsWith}
-use Rattle.reo_document.proofs.ReadLemmas.{leads_misplaced, leads_with, OnOk-same, stops_why}
+use Rattle.reo_document.specs.Placed.{with_said}
+use Rattle.reo_document.specs.Reading.{HasSaid}
+use Rattle.reo_document.proofs.ReadLemmas.{OnOk-same, goes_as}
 use Rattle.reo_document.proofs.builder.Builder.stand.Goals as goal
 
-pub returns-in-None-clause-exact : goal.returns-in-None-clause-exact
-returns-in-None-clause-exact c = OnOk-same c.add.result c.map_err.result c.map_err.ensures.variant (λ added. added) c.add.ensures.exact
+pub returns-in-Port-clause-goes : goal.returns-in-Port-clause-goes
+returns-in-Port-clause-goes c = λ d has.
+    OnOk-same c.add_port.result c.map_err.result c.map_err.ensures.variant
+    (λ added. goes_as d (data_of c.args.self.now) (data_of c.add_port.new.self) c.args.number c.args.line.now (PortSaid c.in-Port.way (name_at c.args.line.now c.in-Port.node)) refl
+    (added ∙ ap (λ n. with_said (data_of c.args.self.now) (PortSaid c.in-Port.way n)) c.name_in.ensures)
+    (subst (HasSaid d c.args.line.now (data_of c.args.self.now)) (ap (said c.args.line.now) c.in-Port.is) has))
+    c.add_port.ensures.exact
 
-pub returns-in-Some-clause-stops : goal.returns-in-Some-clause-stops
-returns-in-Some-clause-stops c = λ d has.
-    subst (StopsWith d c.args.number c.args.line.now) (sym c.refusal_at.ensures)
-    (stops_why d c.args.number c.args.line.now c.in-Some.why
-    (leads_misplaced d c.args.number c.args.line.now has.tokens c.args.self.now.texts (said c.args.line.now c.args.sentence) c.in-Some.why (record { is = has.cut_so; some = has.some }) has.says
-    (sym c.in-Some.is ∙ c.misplaced.ensures ∙ ap (λ e. misplaced e (said c.args.line.now c.args.sentence)) has.same)))
-
-pub returns-in-None-clause-goes : goal.returns-in-None-clause-goes
-returns-in-None-clause-goes c = λ d has.
-    OnOk-same c.add.result c.map_err.result c.map_err.ensures.variant
-    (λ added. leads_with d (data_of c.add.new.self) c.args.number c.args.line.now has.tokens c.args.self.now.texts (said c.args.line.now c.args.sentence) (record { is = has.cut_so; some = has.some }) has.says
-    (sym c.in-None.is ∙ c.misplaced.ensures ∙ ap (λ e. misplaced e (said c.args.line.now c.args.sentence)) has.same)
-    (added ∙ ap (λ e. with_said e (said c.args.line.now c.args.sentence)) has.same))
-    c.add.ensures.exact
+pub returns-in-Channel-clause-goes : goal.returns-in-Channel-clause-goes
+returns-in-Channel-clause-goes c = λ d has.
+    OnOk-same c.add_channel.result c.map_err-in-Channel.result c.map_err-in-Channel.ensures.variant
+    (λ added. goes_as d (data_of c.args.self.now) (data_of c.add_channel.new.self) c.args.number c.args.line.now
+    (ChannelSaid c.in-Channel.kind (name_at c.args.line.now c.in-Channel.a) (name_at c.args.line.now c.in-Channel.b)) refl
+    (added ∙ ap (λ n. with_said (data_of c.args.self.now) (ChannelSaid c.in-Channel.kind n c.name_in-in-Channel-2.result.now)) c.name_in-in-Channel.ensures
+    ∙ ap (λ n. with_said (data_of c.args.self.now) (ChannelSaid c.in-Channel.kind (name_at c.args.line.now c.in-Channel.a) n)) c.name_in-in-Channel-2.ensures)
+    (subst (HasSaid d c.args.line.now (data_of c.args.self.now)) (ap (said c.args.line.now) c.in-Channel.is) has))
+    c.add_channel.ensures.exact
