@@ -22,10 +22,11 @@ use Rattle.reo_grammar.specs.Token.{Integer}
 use Rattle.reo_grammar.specs.Lines.{Scripts, Put, Get, PutLine, GetLine}
 use Rattle.reo_value.specs.declared.value.Value.TheVariants.{Int}
 use Rattle.reo_sentence.specs.declared.said.Name.{Name}
-use Rattle.reo_sentence.specs.declared.said.Sentence as rust
+use Rattle.reo_value.specs.declared.value.Value.{Value}
+use Rattle.reo_document.specs.Builder.{operation_said}
 use Rattle.reo_sentence.specs.declared.said.Sentence.TheVariants as sentence
 use Rattle.reo_sentence.specs.Seen.{decimal_after, decimal_value, number_value}
-use Rattle.reo_sentence.specs.Said.{AreNamesIn, StandsIn, said}
+use Rattle.reo_sentence.specs.Said.{IsNameIn, StandsIn, name_at}
 use Rattle.reo_sentence.specs.ReadLine.{SaysIt}
 use Rattle.reo_document.specs.Document.{DocumentData}
 use Rattle.reo_document.specs.Spells.{place_in}
@@ -193,11 +194,10 @@ cut_get rest is =
     ∙ ap (before (token_from Word 0 3))
     (behind_blank 510 3 rest Word (length rest) is ∙ ap (before (token_from Word 4 (4 + length rest))) (nothing 510 (4 + length rest) rest (drop_all rest)))
 
-plainly_get : (rest : List ℕ) (len : ℕ) → BeginsWithName rest len → len ≡ length rest → SaysPlainly (103 ∷ 101 ∷ 116 ∷ 32 ∷ rest) (sentence.Get (name_of len))
+plainly_get : (rest : List ℕ) (len : ℕ) → BeginsWithName rest len → len ≡ length rest → SaysPlainly (103 ∷ 101 ∷ 116 ∷ 32 ∷ rest) (name_of len, None)
 plainly_get rest len is all = record {
   tokens = get_tokens len;
   cut_so = sym (cut_get rest (subst (BeginsWith rest Word) all is.begins) ∙ ap (λ n. (get_tokens n, Over)) (sym all));
-  bytes = omega arith;
   some = some_tokens (token_from Word 0 3) (token_from Word 4 (4 + len) ∷ []);
   says = λ texts. record {
     sentence = GetLine (slice_range (103 ∷ 101 ∷ 116 ∷ 32 ∷ rest) 4 (4 + len));
@@ -217,10 +217,10 @@ plainly_get rest len is all = record {
 }
 
 pub says_get : (line rest : List ℕ) (name : Name) (len : ℕ) → line ≡ 103 ∷ 101 ∷ 116 ∷ 32 ∷ rest → BeginsWithName rest len → length rest ≤ len → name.start ≡ 4 → name.end ≡ 4 + len
-    → SaysPlainly line (sentence.Get name)
+    → SaysPlainly line (name, None)
 says_get line rest name len is begins over start end =
-    subst (λ l. SaysPlainly l (sentence.Get name)) (sym is)
-    (subst (λ n. SaysPlainly (103 ∷ 101 ∷ 116 ∷ 32 ∷ rest) (sentence.Get n)) (sym same) (plainly_get rest len begins (omega (arith, over, begins.within))))
+    subst (λ l. SaysPlainly l (name, None)) (sym is)
+    (subst (λ n. SaysPlainly (103 ∷ 101 ∷ 116 ∷ 32 ∷ rest) (n, None)) (sym same) (plainly_get rest len begins (omega (arith, over, begins.within))))
   where
     same : name ≡ name_of len
     same = ap (λ n. record { start = n; end = name.end }) start ∙ ap (λ n. record { start = 4; end = n }) end
@@ -251,11 +251,10 @@ number_part rest digits len behind =
     ap (λ k. take k (drop (4 + len + 1) line)) size ∙ ap (take (length digits)) place ∙ take-length digits
 
 plainly_put : (rest digits : List ℕ) (len : ℕ) (number : ℤ) → BeginsWithName rest len → drop len rest ≡ 32 ∷ digits → IsPlainNumber digits number
-    → SaysPlainly (112 ∷ 117 ∷ 116 ∷ 32 ∷ rest) (sentence.Put (name_of len) (Int number))
+    → SaysPlainly (112 ∷ 117 ∷ 116 ∷ 32 ∷ rest) (name_of len, Some (Int number))
 plainly_put rest digits len number is behind counts = record {
   tokens = put_tokens len (length digits);
   cut_so = sym (cut_put rest digits len is.begins behind counts.begins);
-  bytes = omega arith;
   some = some_tokens (token_from Word 0 3) (token_from Word 4 (4 + len) ∷ token_from Number (4 + len + 1) (4 + len + 1 + length digits) ∷ []);
   says = λ texts. record {
     sentence = PutLine (slice_range (112 ∷ 117 ∷ 116 ∷ 32 ∷ rest) 4 (4 + len)) (Integer number);
@@ -277,10 +276,10 @@ plainly_put rest digits len number is behind counts = record {
 }
 
 pub says_put : (line rest : List ℕ) (name : Name) (len : ℕ) (number : ℤ) → line ≡ 112 ∷ 117 ∷ 116 ∷ 32 ∷ rest → BeginsWithName rest len
-    → (digits : List ℕ) × ((drop len rest ≡ 32 ∷ digits) × IsPlainNumber digits number) → name.start ≡ 4 → name.end ≡ 4 + len → SaysPlainly line (sentence.Put name (Int number))
+    → (digits : List ℕ) × ((drop len rest ≡ 32 ∷ digits) × IsPlainNumber digits number) → name.start ≡ 4 → name.end ≡ 4 + len → SaysPlainly line (name, Some (Int number))
 says_put line rest name len number is begins behind start end =
-    subst (λ l. SaysPlainly l (sentence.Put name (Int number))) (sym is)
-    (subst (λ n. SaysPlainly (112 ∷ 117 ∷ 116 ∷ 32 ∷ rest) (sentence.Put n (Int number))) (sym same) (plainly_put rest behind.0 len number begins behind.1.0 behind.1.1))
+    subst (λ l. SaysPlainly l (name, Some (Int number))) (sym is)
+    (subst (λ n. SaysPlainly (112 ∷ 117 ∷ 116 ∷ 32 ∷ rest) (n, Some (Int number))) (sym same) (plainly_put rest behind.0 len number begins behind.1.0 behind.1.1))
   where
     same : name ≡ name_of len
     same = ap (λ n. record { start = n; end = name.end }) start ∙ ap (λ n. record { start = 4; end = n }) end
@@ -292,23 +291,24 @@ in_line line rest name len a b d is begins start end =
     (omega (arith, start, end), omega (arith, end, size, begins.within))
 
 pub names_get : (line rest : List ℕ) (name : Name) (len : ℕ) → line ≡ 103 ∷ 101 ∷ 116 ∷ 32 ∷ rest → BeginsWithName rest len → length rest ≤ len → name.start ≡ 4 → name.end ≡ 4 + len
-    → AreNamesIn line (sentence.Get name)
+    → IsNameIn line name
 names_get line rest name len is begins over start end =
     let plainly = says_get line rest name len is begins over start end in
     names_in Scripts line plainly.tokens [] [] (sentence.Get name) (plainly.says []) plainly.cut_so (in_line line rest name len 103 101 116 is begins start end)
 
 pub names_put : (line rest : List ℕ) (name : Name) (len : ℕ) (number : ℤ) → line ≡ 112 ∷ 117 ∷ 116 ∷ 32 ∷ rest → BeginsWithName rest len
-    → (digits : List ℕ) × ((drop len rest ≡ 32 ∷ digits) × IsPlainNumber digits number) → name.start ≡ 4 → name.end ≡ 4 + len → AreNamesIn line (sentence.Put name (Int number))
+    → (digits : List ℕ) × ((drop len rest ≡ 32 ∷ digits) × IsPlainNumber digits number) → name.start ≡ 4 → name.end ≡ 4 + len → IsNameIn line name
 names_put line rest name len number is begins behind start end =
     let plainly = says_put line rest name len number is begins behind start end in
     names_in Scripts line plainly.tokens [] [] (sentence.Put name (Int number)) (plainly.says []) plainly.cut_so (in_line line rest name len 112 117 116 is begins start end)
 
 -- Behind a component line, a line says what it says plainly.
-pub said_plainly : (d : DocumentData) (line : List ℕ) (it : rust.Sentence) → place_in d ≡ Scripts → SaysPlainly line it → HasSaid d line d (said line it)
-said_plainly d line it place plainly = record {
+pub said_plainly : (d : DocumentData) (line : List ℕ) (node : Name) (value : Option Value) → place_in d ≡ Scripts → SaysPlainly line (node, value)
+    → HasSaid d line d (operation_said (name_at line node) value)
+said_plainly d line node value place plainly = record {
   tokens = plainly.tokens;
   cut_so = plainly.cut_so;
   some = plainly.some;
-  says = subst (λ p. SaysIt p line plainly.tokens d.texts d.texts (said line it)) (sym place) (plainly.says d.texts);
+  says = subst (λ p. SaysIt p line plainly.tokens d.texts d.texts (operation_said (name_at line node) value)) (sym place) (plainly.says d.texts);
   same = refl;
 }

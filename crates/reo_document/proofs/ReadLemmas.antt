@@ -179,18 +179,18 @@ stops_as d now number line it why placed_so has =
     (leads_misplaced d number line has.tokens now.texts it why (record { is = has.cut_so; some = has.some }) has.says (placed_so ∙ ap (λ e. misplaced e it) has.same))
 
 -- Operations, by what they exchange.
-pub operation_misplaced : (d : DocumentData) (name : List ℕ) (value : Option Value) (way : Way) (node : Option ℕ) (port : Option (ℕ × Way)) → way ≡ way_with value → node ≡ place_of d.nodes name
-    → port ≡ port_at d node → misplaced_at d way port ≡ misplaced d (operation_said name value)
-operation_misplaced d name value way node port goes stands is =
+pub operation_misplaced : (d : DocumentData) (name : List ℕ) (value : Option Value) (way : Way) (at : Option ℕ) (port : Option (ℕ × Way)) → way ≡ way_with value → at ≡ place_of d.nodes name
+    → port ≡ port_at d at → misplaced_at d way port ≡ misplaced d (operation_said name value)
+operation_misplaced d name value way at port goes stands is =
     ap (λ w. misplaced_at d w port) goes ∙ ap (misplaced_at d (way_with value)) (is ∙ ap (port_at d) stands) ∙ by value
   where
     by : (v : Option Value) → misplaced_at d (way_with v) (port_named d name) ≡ misplaced d (operation_said name v)
     by None = refl
     by (Some x) = refl
 
-pub operation_with : (d : DocumentData) (name : List ℕ) (value : Option Value) (node : Option ℕ) (port : Option (ℕ × Way)) → node ≡ place_of d.nodes name → port ≡ port_at d node
+pub operation_with : (d : DocumentData) (name : List ℕ) (value : Option Value) (at : Option ℕ) (port : Option (ℕ × Way)) → at ≡ place_of d.nodes name → port ≡ port_at d at
     → record d { scripts = with_operation d.scripts (operation_at (number_at port) value) } ≡ with_said d (operation_said name value)
-operation_with d name value node port stands is =
+operation_with d name value at port stands is =
     ap (λ p. record d { scripts = with_operation d.scripts (operation_at (number_at p) value) }) (is ∙ ap (port_at d) stands) ∙ by value
   where
     by : (v : Option Value) → record d { scripts = with_operation d.scripts (operation_at (port_number d name) v) } ≡ with_said d (operation_said name v)

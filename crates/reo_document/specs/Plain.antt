@@ -1,23 +1,25 @@
 -- Operations in their plainest spelling.
-use Rattle.std.specs.Prelude.{◌≡◌, ◌≢◌, ℕ, ℤ, ◌<◌, ◌≤◌, ◌==◌, nat_lt, Bool, true, false, ◌||◌, List, [], ◌∷◌, length, Some}
+use Rattle.std.specs.Prelude.{◌≡◌, ◌≢◌, ℕ, ℤ, ◌≤◌, ◌==◌, nat_lt, Bool, true, false, ◌||◌, List, [], ◌∷◌, length, Option, Some}
 use Rattle.reo_token.specs.declared.token.Token.{Token}
 use Rattle.reo_token.specs.declared.token.Lexeme.{Lexeme}
 use Rattle.reo_token.specs.declared.token.Lexeme.TheVariants.{Word, Number}
 use Rattle.reo_token.specs.declared.token.End.TheVariants.{Over}
 use Rattle.reo_token.specs.Cut.{blanks, is_over, token_at, cut}
 use Rattle.reo_grammar.specs.Lines.{Scripts}
-use Rattle.reo_sentence.specs.declared.said.Sentence as rust
+use Rattle.reo_sentence.specs.declared.said.Name.{Name}
+use Rattle.reo_value.specs.declared.value.Value.{Value}
 use Rattle.reo_sentence.specs.Seen.{number_value}
 use Rattle.reo_sentence.specs.Limits.{is_number}
-use Rattle.reo_sentence.specs.ReadLine.{Says}
+use Rattle.reo_sentence.specs.Said.{name_at}
+use Rattle.reo_sentence.specs.ReadLine.{SaysIt}
+use Rattle.reo_document.specs.Builder.{operation_said}
 
 -- behind a component line, the line says this operation, whatever texts are known
-pub record SaysPlainly (line : List ℕ) (sentence : rust.Sentence) : Type 0 where
+pub record SaysPlainly (line : List ℕ) (operation : Name × Option Value) : Type 0 where
   pub tokens : List Token
   pub cut_so : (tokens, Over) ≡ cut 512 0 line
   pub some : tokens ≢ []
-  pub bytes : 0 < length line
-  pub says : (texts : List (List ℕ)) → Says Scripts line tokens texts texts sentence
+  pub says : (texts : List (List ℕ)) → SaysIt Scripts line tokens texts texts (operation_said (name_at line operation.0) operation.1)
 
 -- a token of so many bytes begins here, with no blank before it
 pub record BeginsWith (bytes : List ℕ) (lexeme : Lexeme) (len : ℕ) : Type 0 where

@@ -2,10 +2,10 @@
 ghost use Rattle.std.specs.Prelude.{◌≡◌, ◌+◌, ◌≤◌, ◌∷◌, length, true, IfSome};
 ghost use Rattle.reo_token.specs.Bytes as bytes_spec;
 ghost use Rattle.reo_token.specs.Cut as cut_spec;
-ghost use Rattle.reo_sentence.specs.Said.{AreNamesIn};
+ghost use Rattle.reo_sentence.specs.Said.{IsNameIn};
 ghost use Rattle.reo_document.specs.Plain.{SaysPlainly, BeginsWithName, IsPlainNumber, IsNumberBehind, starts_natural};
 
-use reo_sentence::{Name, Sentence};
+use reo_sentence::Name;
 use reo_value::{Num, Value};
 
 const LONGEST_NAME: usize = 64;
@@ -17,10 +17,10 @@ const ZERO: u8 = b'0';
 // The least natural number that is out of range.
 const LIMIT: u64 = 1 << 62;
 
-/// The operation that the line says, where it is one in its plainest spelling, with a natural number for a datum.
-pub(crate) fn plain_operation(line: &[u8]) -> Option<Sentence>
+/// The operation that the line says, where it is one in its plainest spelling, with a natural number for a datum: its node, and what it puts.
+pub(crate) fn plain_operation(line: &[u8]) -> Option<(Name, Option<Value>)>
     ensures says { IfSome result (SaysPlainly line.now) }
-    ensures names { IfSome result (AreNamesIn line.now) }
+    ensures name { IfSome result (λ operation. IsNameIn line.now operation.0) }
 {
     if let Some(rest) = behind_word(line, b'p', b'u', b't') {
         return plain_put(line, rest);
@@ -50,29 +50,29 @@ fn behind(bytes: &[u8], byte: u8) -> Option<&[u8]>
 }
 
 // Behind `put`: a name and a number.
-fn plain_put(line: &[u8], rest: &[u8]) -> Option<Sentence>
+fn plain_put(line: &[u8], rest: &[u8]) -> Option<(Name, Option<Value>)>
     requires { line.now ≡ 112 ∷ 117 ∷ 116 ∷ 32 ∷ rest.now }
     ensures says { IfSome result (SaysPlainly line.now) }
-    ensures names { IfSome result (AreNamesIn line.now) }
+    ensures name { IfSome result (λ operation. IsNameIn line.now operation.0) }
 {
     let _line = line;
     let len = name_len(rest)?;
     let number = number_behind(&rest[len..])?;
-    Some(Sentence::Put(name(len), Value::Int(number)))
+    Some((name(len), Some(Value::Int(number))))
 }
 
 // Behind `get`: a name.
-fn plain_get(line: &[u8], rest: &[u8]) -> Option<Sentence>
+fn plain_get(line: &[u8], rest: &[u8]) -> Option<(Name, Option<Value>)>
     requires { line.now ≡ 103 ∷ 101 ∷ 116 ∷ 32 ∷ rest.now }
     ensures says { IfSome result (SaysPlainly line.now) }
-    ensures names { IfSome result (AreNamesIn line.now) }
+    ensures name { IfSome result (λ operation. IsNameIn line.now operation.0) }
 {
     let _line = line;
     let len = name_len(rest)?;
     if len < rest.len() {
         return None;
     }
-    Some(Sentence::Get(name(len)))
+    Some((name(len), None))
 }
 
 // The name of so many bytes behind the word.

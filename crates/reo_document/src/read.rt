@@ -43,8 +43,8 @@ impl Builder {
         ensures lines { OnOk result (length self.new.lines.items ≤ length self.old.lines.items + 1) }
         ensures room { OnOk result ((more : ℕ) → HasRoom (data_of self.old) (length line.now + 1 + more) → HasRoom (data_of self.new) more) }
     {
-        if let Some(sentence) = self.plain(line) {
-            return self.stand(alloc, line, sentence, number);
+        if let Some((node, value)) = self.plain(line) {
+            return self.operate(line, node, value, number);
         }
         let Ok(end) = cut_line(tokens, line) else {
             return Err(TextRefusal::NoMemory);
@@ -185,9 +185,9 @@ impl Builder {
     }
 
     // The operation that a line behind a component line says in its plainest spelling.
-    fn plain(&self, line: &[u8]) -> Option<Sentence>
+    fn plain(&self, line: &[u8]) -> Option<(Name, Option<Value>)>
         ensures says { IfSome result (SaysPlainly line.now) }
-        ensures names { IfSome result (AreNamesIn line.now) }
+        ensures name { IfSome result (λ operation. IsNameIn line.now operation.0) }
         ensures place { IfSome result (λ _. place_in (data_of self.now) ≡ BehindComponents) }
     {
         if self.people.is_empty() {

@@ -5,6 +5,6 @@ pub returns-clause-says : goal.returns-clause-says
 returns-clause-says c =
     says_get c.args.line.now c.args.rest.now c.name.result c.in_ok-len.len c.requires c.in_ok-len.ensures c.if-len-rest.false c.name.ensures.start c.name.ensures.end
 
-pub returns-clause-names : goal.returns-clause-names
-returns-clause-names c =
+pub returns-clause-name : goal.returns-clause-name
+returns-clause-name c =
     names_get c.args.line.now c.args.rest.now c.name.result c.in_ok-len.len c.requires c.in_ok-len.ensures c.if-len-rest.false c.name.ensures.start c.name.ensures.end

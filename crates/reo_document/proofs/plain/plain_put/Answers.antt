@@ -8,6 +8,6 @@ pub returns-clause-says : goal.returns-clause-says
 returns-clause-says c =
     says_put c.args.line.now c.args.rest.now c.name.result c.in_ok-len.len c.in_ok-number.number c.requires c.in_ok-len.ensures (subst (λ bytes. IsNumberBehind bytes c.in_ok-number.number) (take_rest c.args.rest.now c.in_ok-len.len) c.in_ok-number.ensures) c.name.ensures.start c.name.ensures.end
 
-pub returns-clause-names : goal.returns-clause-names
-returns-clause-names c =
+pub returns-clause-name : goal.returns-clause-name
+returns-clause-name c =
     names_put c.args.line.now c.args.rest.now c.name.result c.in_ok-len.len c.in_ok-number.number c.requires c.in_ok-len.ensures (subst (λ bytes. IsNumberBehind bytes c.in_ok-number.number) (take_rest c.args.rest.now c.in_ok-len.len) c.in_ok-number.ensures) c.name.ensures.start c.name.ensures.end

@@ -1,10 +1,10 @@
 use Rattle.std.proofs.Common.{◌+◌, ◌≤◌, length, arith, refl, sym, ap, subst, ◌∙◌}
 use Rattle.reo_token.specs.Cut.{IsEndWithin}
-use Rattle.reo_document.specs.Builder.{data_of}
+use Rattle.reo_document.specs.Builder.{data_of, operation_said}
 use Rattle.reo_document.proofs.ReadLemmas.{leads_bad, leads_large, leads_on, no_items, OnOk-same}
 use Rattle.reo_document.proofs.RoomLemmas.{room_less, room_said}
 use Rattle.reo_document.proofs.PlainLemmas.{said_plainly}
-use Rattle.reo_sentence.specs.Said.{said}
+use Rattle.reo_sentence.specs.Said.{name_at}
 use Rattle.reo_document.proofs.builder.Builder.read.Goals as goal
 
 pub overflow_add-result : goal.overflow_add-result
@@ -30,19 +30,16 @@ returns-then-is_empty-clause-room c =
 
 pub returns-in-Some-clause-goes : goal.returns-in-Some-clause-goes
 returns-in-Some-clause-goes c =
-    c.stand.ensures.goes (data_of c.args.self.now)
-    (said_plainly (data_of c.args.self.now) c.args.line.now c.in-Some.sentence c.in-Some.ensures.place c.in-Some.ensures.says)
+    c.operate.ensures.goes (data_of c.args.self.now)
+    (said_plainly (data_of c.args.self.now) c.args.line.now c.in-Some.node c.in-Some.value c.in-Some.ensures.place c.in-Some.ensures.says)
 
 pub returns-in-Some-clause-stops : goal.returns-in-Some-clause-stops
 returns-in-Some-clause-stops c =
-    c.stand.ensures.stops (data_of c.args.self.now)
-    (said_plainly (data_of c.args.self.now) c.args.line.now c.in-Some.sentence c.in-Some.ensures.place c.in-Some.ensures.says)
+    c.operate.ensures.stops (data_of c.args.self.now)
+    (said_plainly (data_of c.args.self.now) c.args.line.now c.in-Some.node c.in-Some.value c.in-Some.ensures.place c.in-Some.ensures.says)
 
 pub returns-in-Some-clause-room : goal.returns-in-Some-clause-room
 returns-in-Some-clause-room c =
-    OnOk-same c.stand.result c.stand.result refl
-    (λ added. room_said (data_of c.args.self.now) (data_of c.stand.new.self) c.args.self.now.texts (said c.args.line.now c.in-Some.sentence) 0 (length c.args.line.now) added (omega arith) (omega arith))
-    c.stand.ensures.exact
-
-pub stand-requires-clause-nodes : goal.stand-requires-clause-nodes
-stand-requires-clause-nodes c = omega (arith, c.requires.room.nodes, c.in-Some.ensures.says.bytes)
+    OnOk-same c.operate.result c.operate.result refl
+    (λ added. room_said (data_of c.args.self.now) (data_of c.operate.new.self) c.args.self.now.texts (operation_said (name_at c.args.line.now c.in-Some.node) c.in-Some.value) 0 (length c.args.line.now) added (omega arith) (omega arith))
+    c.operate.ensures.exact
