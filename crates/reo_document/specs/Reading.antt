@@ -1,5 +1,5 @@
 -- Where the reading of a line stops.
-use Rattle.std.specs.Prelude.{◌≡◌, ◌≢◌, ℕ, List, []}
+use Rattle.std.specs.Prelude.{◌≡◌, ◌≢◌, ℕ, List, [], Result, OnOk, IfErr}
 use Rattle.reo_token.specs.declared.token.Token.{Token}
 use Rattle.reo_token.specs.declared.token.End.TheVariants.{Over}
 use Rattle.reo_token.specs.Cut.{cut}
@@ -8,7 +8,7 @@ use Rattle.reo_sentence.specs.ReadLine.{SaysIt}
 use Rattle.reo_document.specs.declared.refusal.TextRefusal.{TextRefusal}
 use Rattle.reo_document.specs.declared.refusal.TextRefusal.TheVariants.{NoMemory}
 use Rattle.reo_document.specs.Document.{DocumentData}
-use Rattle.reo_document.specs.Spells.{place_in, Leads, LinesLead, Stops, IsRefusedAs}
+use Rattle.reo_document.specs.Spells.{place_in, Leads, LinesLead, Goes, Stops, IsRefusedAs}
 
 -- the line leads to the refusal; want of memory tells nothing
 abbrev pub StopsWith : DocumentData → ℕ → List ℕ → TextRefusal → Type 0
@@ -31,3 +31,10 @@ pub record HasSaid (d : DocumentData) (line : List ℕ) (now : DocumentData) (it
   pub some : tokens ≢ []
   pub says : SaysIt (place_in d) line tokens d.texts now.texts it
   pub same : now ≡ record d { texts = now.texts }
+
+-- a line that says this leads to the next document where the call went well, and to its refusal where it did not
+abbrev pub LeadsTo : {V : Type 0} → DocumentData → ℕ → List ℕ → Said → Result V TextRefusal → DocumentData → Type 0
+LeadsTo now number line it result next = (d : DocumentData) → HasSaid d line now it → OnOk result (Leads d number line (Goes next))
+
+abbrev pub StopsAs : {V : Type 0} → DocumentData → ℕ → List ℕ → Said → Result V TextRefusal → Type 0
+StopsAs now number line it result = (d : DocumentData) → HasSaid d line now it → IfErr result (StopsWith d number line)

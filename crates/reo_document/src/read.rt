@@ -5,12 +5,11 @@ ghost use Rattle.reo_token.specs.declared.token.End.TheVariants.{Over as IsOver}
 ghost use Rattle.reo_grammar.specs.Lines.{Scripts as BehindComponents};
 ghost use Rattle.reo_sentence.specs.Said.{ComponentSaid, IsNameIn, AreNamesIn, name_at, said};
 ghost use Rattle.reo_sentence.specs.LineReading.{place_of};
-ghost use Rattle.reo_document.specs.Document.{DocumentData};
 ghost use Rattle.reo_document.specs.Placed.{with_said};
 ghost use Rattle.reo_document.specs.Plain.{SaysPlainly};
 ghost use Rattle.reo_document.specs.Spells.{place_in, refusal_at, Leads, LinesLead, Goes, Spells};
 ghost use Rattle.reo_document.specs.Builder.{data_of, operation_said, way_with, HasRoom, KnowsScripts, KnowsPorts};
-ghost use Rattle.reo_document.specs.Reading.{StopsWith, StopsIn, IsRefusalOf, HasSaid};
+ghost use Rattle.reo_document.specs.Reading.{StopsWith, StopsIn, IsRefusalOf, LeadsTo, StopsAs};
 ghost use Rattle.reo_document.specs.Lines.{lines_of};
 
 use crate::builder::{Builder, name_in};
@@ -110,8 +109,8 @@ impl Builder {
         requires ports { KnowsPorts self.old }
         requires names { AreNamesIn line.now sentence }
         ensures exact { OnOk result (data_of self.new ≡ with_said (data_of self.old) (said line.now sentence)) }
-        ensures goes { (d : DocumentData) → HasSaid d line.now (data_of self.old) (said line.now sentence) → OnOk result (Leads d number line.now (Goes (data_of self.new))) }
-        ensures stops { (d : DocumentData) → HasSaid d line.now (data_of self.old) (said line.now sentence) → IfErr result (StopsWith d number line.now) }
+        ensures goes { LeadsTo (data_of self.old) number line.now (said line.now sentence) result (data_of self.new) }
+        ensures stops { StopsAs (data_of self.old) number line.now (said line.now sentence) result }
         ensures scripts { OnOk result (KnowsScripts self.new) }
         ensures ports { OnOk result (KnowsPorts self.new) }
         ensures lines { OnOk result (length self.new.lines.items ≤ length self.old.lines.items + 1) }
@@ -142,8 +141,8 @@ impl Builder {
         requires ports { KnowsPorts self.old }
         requires name { IsNameIn line.now name }
         ensures exact { OnOk result (data_of self.new ≡ with_said (data_of self.old) (ComponentSaid (name_at line.now name))) }
-        ensures goes { (d : DocumentData) → HasSaid d line.now (data_of self.old) (ComponentSaid (name_at line.now name)) → OnOk result (Leads d number line.now (Goes (data_of self.new))) }
-        ensures stops { (d : DocumentData) → HasSaid d line.now (data_of self.old) (ComponentSaid (name_at line.now name)) → IfErr result (StopsWith d number line.now) }
+        ensures goes { LeadsTo (data_of self.old) number line.now (ComponentSaid (name_at line.now name)) result (data_of self.new) }
+        ensures stops { StopsAs (data_of self.old) number line.now (ComponentSaid (name_at line.now name)) result }
         ensures scripts { OnOk result (KnowsScripts self.new) }
         ensures ports { OnOk result (KnowsPorts self.new) }
         ensures lines { OnOk result (self.new.lines.items ≡ self.old.lines.items) }
@@ -168,8 +167,8 @@ impl Builder {
         requires ports { KnowsPorts self.old }
         requires name { IsNameIn line.now node }
         ensures exact { OnOk result (data_of self.new ≡ with_said (data_of self.old) (operation_said (name_at line.now node) value)) }
-        ensures goes { (d : DocumentData) → HasSaid d line.now (data_of self.old) (operation_said (name_at line.now node) value) → OnOk result (Leads d number line.now (Goes (data_of self.new))) }
-        ensures stops { (d : DocumentData) → HasSaid d line.now (data_of self.old) (operation_said (name_at line.now node) value) → IfErr result (StopsWith d number line.now) }
+        ensures goes { LeadsTo (data_of self.old) number line.now (operation_said (name_at line.now node) value) result (data_of self.new) }
+        ensures stops { StopsAs (data_of self.old) number line.now (operation_said (name_at line.now node) value) result }
         ensures scripts { OnOk result (KnowsScripts self.new) }
         ensures ports { OnOk result (KnowsPorts self.new) }
         ensures lines { OnOk result (self.new.lines.items ≡ self.old.lines.items) }
