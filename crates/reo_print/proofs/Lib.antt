@@ -15,3 +15,4 @@ pub mod TextLinesLemmas
 pub mod ScriptLemmas
 pub mod DocumentAgainLemmas
 pub mod SpelledAgainLemmas
+pub mod FrontLemmas

@@ -1,6 +1,6 @@
 -- The canonical text of a document: its lines in order, each with its tokens joined by single blanks, but none behind an opening
 -- bracket, before a closing one or before a comma, and with brackets only where a guard needs them.
-use Rattle.std.specs.Prelude.{ℕ, if◌then◌else◌, Bool, true, false, List, [], ◌∷◌, ◌++◌, slice_get, flat_map, Some, None, codes, decimal}
+use Rattle.std.specs.Prelude.{ℕ, if◌then◌else◌, Bool, true, false, List, [], ◌∷◌, ◌++◌, slice_get, flat_map, Some, None, codes, decimal, Option}
 use Rattle.std.specs.Fmt.{signed_decimal}
 use Rattle.std.specs.List.{filter_map}
 use Rattle.reo_value.specs.Lexicon.{text_at}
@@ -118,6 +118,13 @@ abbrev pub circuit_line : List (List ℕ) → List (List ℕ) → Line → List 
 circuit_line nodes texts (line.Port way node) = way_word way ++ text_at nodes node ++ codes "\n"
 circuit_line nodes texts (line.Channel channel) =
     kind_word channel.kind ++ text_at nodes channel.a ++ codes " " ++ text_at nodes channel.b ++ kind_rest texts channel.kind ++ codes "\n"
+
+-- the line of a put at a port up to its value, and the line of a get
+abbrev pub put_front : List (List ℕ) → Option Port → List ℕ
+put_front nodes port = codes "put " ++ node_text nodes port ++ codes " "
+
+abbrev pub get_line : List (List ℕ) → Option Port → List ℕ
+get_line nodes port = codes "get " ++ node_text nodes port ++ codes "\n"
 
 -- a line of a script, with the ports by number
 abbrev pub operation_line : List (List ℕ) → List (List ℕ) → List Port → Op → List ℕ

@@ -5,3 +5,4 @@ pub mod Tokens
 pub mod Trees
 pub mod Sentences
 pub mod Again
+pub mod Front

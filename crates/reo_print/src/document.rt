@@ -5,8 +5,10 @@ ghost use Rattle.reo_document.specs.Document.{port_in};
 ghost use Rattle.reo_document.specs.Spells.{Spells};
 ghost use Rattle.reo_trace.specs.Passes.{numbered};
 ghost use Rattle.reo_print.specs.Buffer.{Adds};
+ghost use Rattle.reo_print.specs.Front.{AreFronts};
 ghost use Rattle.reo_print.specs.Canonical.{circuit_line, operation_line, script_lines, canonical_text};
 
+use crate::front::{Fronts, fronts_of};
 use crate::line::{push_line, push_operation};
 use reo_document::{Document, Line};
 use reo_net::Port;
@@ -31,15 +33,17 @@ fn push_lines(
 
 fn push_operations(
     buffer: &mut Vec<u8>,
+    fronts: &Fronts,
     nodes: &Lexicon,
     texts: &Lexicon,
     ports: &[Port],
     script: &[Op],
 ) -> Result<(), AllocError>
+    requires { AreFronts nodes.now ports.now fronts.now }
     ensures { Adds buffer.old buffer.new result (flat_map (operation_line nodes.now texts.now ports.now) script.now) }
 {
     for operation in script {
-        push_operation(buffer, nodes, texts, ports, *operation)?;
+        push_operation(buffer, fronts, nodes, texts, ports, *operation)?;
     }
     Ok(())
 }
@@ -47,31 +51,42 @@ fn push_operations(
 // The lines of the component of this number.
 fn push_script(
     buffer: &mut Vec<u8>,
+    fronts: &Fronts,
     document: &Document,
     ports: &[Port],
     number: usize,
     script: &[Op],
 ) -> Result<(), AllocError>
-    requires { ports.now ≡ filter_map port_in document.now.lines }
+    requires ports { ports.now ≡ filter_map port_in document.now.lines }
+    requires fronts { AreFronts document.now.nodes ports.now fronts.now }
     ensures { Adds buffer.old buffer.new result (script_lines document.now number script.now) }
 {
     push_bytes(buffer, b"component ")?;
     push_bytes(buffer, bytes_at(document.people(), number))?;
     push_bytes(buffer, b"\n")?;
-    push_operations(buffer, document.nodes(), document.texts(), ports, script)
+    push_operations(
+        buffer,
+        fronts,
+        document.nodes(),
+        document.texts(),
+        ports,
+        script,
+    )
 }
 
 fn push_scripts(
     buffer: &mut Vec<u8>,
+    fronts: &Fronts,
     document: &Document,
     ports: &[Port],
     scripts: &[Items<Op>],
 ) -> Result<(), AllocError>
-    requires { ports.now ≡ filter_map port_in document.now.lines }
+    requires ports { ports.now ≡ filter_map port_in document.now.lines }
+    requires fronts { AreFronts document.now.nodes ports.now fronts.now }
     ensures { Adds buffer.old buffer.new result (numbered (script_lines document.now) 0 scripts.now) }
 {
     for (number, script) in scripts.iter().enumerate() {
-        push_script(buffer, document, ports, number, script.as_slice())?;
+        push_script(buffer, fronts, document, ports, number, script.as_slice())?;
     }
     Ok(())
 }
@@ -82,6 +97,7 @@ pub fn print_document(alloc: Global, document: &Document) -> Result<Vec<u8>, All
     ensures again { IfOk result (λ text. Spells text.items document.now) }
 {
     let ports = document.ports(alloc)?;
+    let fronts = fronts_of(alloc, document.nodes(), ports.as_slice())?;
     let mut text = Vec::new(alloc);
     push_lines(
         &mut text,
@@ -89,6 +105,12 @@ pub fn print_document(alloc: Global, document: &Document) -> Result<Vec<u8>, All
         document.texts(),
         document.lines(),
     )?;
-    push_scripts(&mut text, document, ports.as_slice(), document.scripts())?;
+    push_scripts(
+        &mut text,
+        &fronts,
+        document,
+        ports.as_slice(),
+        document.scripts(),
+    )?;
     Ok(text)
 }

@@ -2,6 +2,7 @@
 #![tactic(auto)]
 
 mod document;
+mod front;
 mod function;
 mod guard;
 pub mod laws;

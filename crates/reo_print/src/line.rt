@@ -1,10 +1,10 @@
 //! Lines of the circuit and of scripts.
-ghost use Rattle.std.specs.Prelude.{slice_get};
 ghost use Rattle.reo_document.specs.declared.line.Line.TheVariants.{Channel as AnyChannel};
-ghost use Rattle.reo_trace.specs.ReportText.{node_text};
 ghost use Rattle.reo_print.specs.Buffer.{Adds};
+ghost use Rattle.reo_print.specs.Front.{AreFronts};
 ghost use Rattle.reo_print.specs.Canonical.{kind_word, kind_rest, way_word, circuit_line, operation_line};
 
+use crate::front::{Fronts, push_get, push_put};
 use crate::function::push_function;
 use crate::guard::{Level, push_guard};
 use reo_document::Line;
@@ -93,41 +93,23 @@ pub(crate) fn push_line(
     }
 }
 
-fn push_node(
-    buffer: &mut Vec<u8>,
-    nodes: &Lexicon,
-    ports: &[Port],
-    number: u32,
-) -> Result<(), AllocError>
-    ensures { Adds buffer.old buffer.new result (node_text nodes.now (slice_get ports.now number)) }
-{
-    match ports.get(number as usize) {
-        Some(port) => push_bytes(buffer, bytes_at(nodes, port.node as usize)),
-        None => Ok(()),
-    }
-}
-
 pub(crate) fn push_operation(
     buffer: &mut Vec<u8>,
+    fronts: &Fronts,
     nodes: &Lexicon,
     texts: &Lexicon,
     ports: &[Port],
     operation: Op,
 ) -> Result<(), AllocError>
+    requires { AreFronts nodes.now ports.now fronts.now }
     ensures { Adds buffer.old buffer.new result (operation_line nodes.now texts.now ports.now operation) }
 {
     match operation {
         Op::Put(port, value) => {
-            push_bytes(buffer, b"put ")?;
-            push_node(buffer, nodes, ports, port)?;
-            push_bytes(buffer, b" ")?;
+            push_put(buffer, fronts, nodes, ports, port as usize)?;
             push_value(buffer, texts, value)?;
             push_bytes(buffer, b"\n")
         }
-        Op::Get(port) => {
-            push_bytes(buffer, b"get ")?;
-            push_node(buffer, nodes, ports, port)?;
-            push_bytes(buffer, b"\n")
-        }
+        Op::Get(port) => push_get(buffer, fronts, nodes, ports, port as usize),
     }
 }
