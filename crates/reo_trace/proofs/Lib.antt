@@ -1,5 +1,7 @@
 pub mod BufferLemmas
+pub mod FrontLemmas
 pub mod ListLemmas
+pub mod PartLemmas
 pub mod ReportLemmas
 pub mod RoomLemmas
 pub mod WriteLemmas

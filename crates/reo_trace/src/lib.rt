@@ -1,6 +1,7 @@
 //! What a run did: its steps, the calls that it answered and how it ended, and the text of that.
 #![tactic(auto)]
 
+mod fronts;
 mod gather;
 pub mod laws;
 mod lines;

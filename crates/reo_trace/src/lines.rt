@@ -3,8 +3,10 @@ ghost use Rattle.std.specs.Prelude.{◌≡◌, decimal, flat_map, slice_get, Som
 ghost use Rattle.std.specs.Fmt.{signed_decimal};
 ghost use Rattle.reo_value.specs.Lexicon.{text_at};
 ghost use Rattle.reo_trace.specs.Buffer.{Takes};
+ghost use Rattle.reo_trace.specs.Fronts.{AreFronts};
 ghost use Rattle.reo_trace.specs.ReportText.{escaped, value_text, node_text, port_text, end_text, name_text, pair_text, step_line, op_text, call_line, end_line};
 
+use crate::fronts::{Fronts, push_front_of};
 use crate::{Called, Ending};
 use itoa::Buffer;
 use reo_net::{Net, Port, Step};
@@ -137,13 +139,13 @@ fn push_pair(
     net: &Net,
     nodes: &Lexicon,
     texts: &Lexicon,
+    fronts: &Fronts,
     pair: (u32, Value),
 ) -> Result<(), AllocError>
+    requires { AreFronts net.now nodes.now fronts.now }
     ensures { Takes buffer.old buffer.new result (pair_text net.now nodes.now texts.now pair) }
 {
-    push_bytes(buffer, b" ")?;
-    push_name(buffer, net, nodes, pair.0)?;
-    push_bytes(buffer, b"=")?;
+    push_front_of(buffer, net, nodes, fronts, pair.0)?;
     push_value(buffer, texts, pair.1)
 }
 
@@ -152,12 +154,14 @@ fn push_pairs(
     net: &Net,
     nodes: &Lexicon,
     texts: &Lexicon,
+    fronts: &Fronts,
     pairs: &[(u32, Value)],
 ) -> Result<(), AllocError>
+    requires { AreFronts net.now nodes.now fronts.now }
     ensures { Takes buffer.old buffer.new result (flat_map (pair_text net.now nodes.now texts.now) pairs.now) }
 {
     for pair in pairs {
-        push_pair(buffer, net, nodes, texts, *pair)?;
+        push_pair(buffer, net, nodes, texts, fronts, *pair)?;
     }
     Ok(())
 }
@@ -167,14 +171,16 @@ pub(crate) fn push_step(
     net: &Net,
     nodes: &Lexicon,
     texts: &Lexicon,
+    fronts: &Fronts,
     number: u64,
     step: &Step,
 ) -> Result<(), AllocError>
+    requires { AreFronts net.now nodes.now fronts.now }
     ensures { Takes buffer.old buffer.new result (step_line net.now nodes.now texts.now number step.now) }
 {
     push_bytes(buffer, b"step ")?;
     push_decimal(buffer, number)?;
-    push_pairs(buffer, net, nodes, texts, step.pairs.as_slice())?;
+    push_pairs(buffer, net, nodes, texts, fronts, step.pairs.as_slice())?;
     push_bytes(buffer, b"\n")
 }
 

@@ -3,8 +3,10 @@ ghost use Rattle.std.specs.Prelude.{◌≡◌, ℕ, ◌+◌, ◌<◌, ◌≤◌,
 ghost use Rattle.std.specs.Fmt.{signed_decimal};
 ghost use Rattle.reo_value.specs.declared.value.Value.TheVariants.{Sym};
 ghost use Rattle.reo_trace.specs.ReportText.{value_text, node_text, name_text, pair_text, op_text, step_line, call_line, end_text};
+ghost use Rattle.reo_trace.specs.Fronts.{AreFronts, front_text};
 ghost use Rattle.reo_trace.specs.Passes.{all_steps, own_calls, all_calls, piece, StepsFit, OwnFit, CallsFit, Fits};
 
+use crate::fronts::{Fronts, front_len};
 use crate::lines::bytes_at;
 use crate::{Called, Report};
 use reo_net::{Net, Step};
@@ -78,38 +80,58 @@ fn name_room(net: &Net, nodes: &Lexicon, name: u32) -> Result<usize, AllocError>
     }
 }
 
+fn front_room(net: &Net, nodes: &Lexicon, fronts: &Fronts, name: u32) -> Result<usize, AllocError>
+    requires { AreFronts net.now nodes.now fronts.now }
+    ensures { IfOk result (λ room. length (front_text net.now nodes.now name) ≤ room) }
+{
+    if name < net.names() {
+        return Ok(front_len(net, nodes, fronts, name));
+    }
+    added(2, name_room(net, nodes, name)?)
+}
+
 fn pair_room(
     net: &Net,
     nodes: &Lexicon,
     texts: &Lexicon,
+    fronts: &Fronts,
     pair: (u32, Value),
 ) -> Result<usize, AllocError>
+    requires { AreFronts net.now nodes.now fronts.now }
     ensures { IfOk result (λ room. length (pair_text net.now nodes.now texts.now pair) ≤ room) }
 {
-    let name = name_room(net, nodes, pair.0)?;
-    let value = value_room(texts, pair.1)?;
-    added(2, added(name, value)?)
+    let front = front_room(net, nodes, fronts, pair.0)?;
+    added(front, value_room(texts, pair.1)?)
 }
 
 fn pairs_room(
     net: &Net,
     nodes: &Lexicon,
     texts: &Lexicon,
+    fronts: &Fronts,
     pairs: &[(u32, Value)],
 ) -> Result<usize, AllocError>
+    requires { AreFronts net.now nodes.now fronts.now }
     ensures { IfOk result (λ room. length (flat_map (pair_text net.now nodes.now texts.now) pairs.now) ≤ room) }
 {
     let mut room = 0;
     for pair in pairs {
-        room = added(room, pair_room(net, nodes, texts, *pair)?)?;
+        room = added(room, pair_room(net, nodes, texts, fronts, *pair)?)?;
     }
     Ok(room)
 }
 
-fn step_room(net: &Net, nodes: &Lexicon, texts: &Lexicon, step: &Step) -> Result<usize, AllocError>
+fn step_room(
+    net: &Net,
+    nodes: &Lexicon,
+    texts: &Lexicon,
+    fronts: &Fronts,
+    step: &Step,
+) -> Result<usize, AllocError>
+    requires { AreFronts net.now nodes.now fronts.now }
     ensures { IfOk result (λ room. (number : ℕ) → number < 2 ^ 64 → length (step_line net.now nodes.now texts.now number step.now) ≤ room) }
 {
-    let pairs = pairs_room(net, nodes, texts, step.pairs.as_slice())?;
+    let pairs = pairs_room(net, nodes, texts, fronts, step.pairs.as_slice())?;
     added(pairs, 26)
 }
 
@@ -173,14 +195,16 @@ fn measure_steps(
     net: &Net,
     nodes: &Lexicon,
     texts: &Lexicon,
+    fronts: &Fronts,
     steps: &[Step],
 ) -> Result<Extent, AllocError>
+    requires { AreFronts net.now nodes.now fronts.now }
     ensures total { IfOk result (λ extent. length (all_steps net.now nodes.now texts.now steps.now) ≤ extent.all) }
     ensures room { IfOk result (λ extent. StepsFit net.now nodes.now texts.now steps.now (length steps.now) (piece + extent.longest)) }
 {
     let mut extent = Extent { longest: 0, all: 0 };
     for step in steps {
-        let line = step_room(net, nodes, texts, step)?;
+        let line = step_room(net, nodes, texts, fronts, step)?;
         extent = with_lines(extent, one_line(line))?;
     }
     Ok(extent)
@@ -229,11 +253,13 @@ pub(crate) fn measure(
     nodes: &Lexicon,
     texts: &Lexicon,
     people: &Lexicon,
+    fronts: &Fronts,
     report: &Report,
 ) -> Result<usize, AllocError>
+    requires { AreFronts net.now nodes.now fronts.now }
     ensures { IfOk result (λ longest. Fits net.now nodes.now texts.now people.now report.now (piece + longest)) }
 {
-    let steps = measure_steps(net, nodes, texts, report.steps.as_slice())?;
+    let steps = measure_steps(net, nodes, texts, fronts, report.steps.as_slice())?;
     let calls = measure_calls(net, nodes, texts, people, report.calls.as_slice())?;
     let lines = with_lines(steps, calls)?;
     let all = with_lines(lines, one_line(10))?;

@@ -3,10 +3,12 @@ ghost use Rattle.std.specs.Prelude.{◌≡◌, ◌+◌, ◌<◌, ◌≤◌, ◌^
 ghost use Rattle.reo_base.specs.Faults.{Rose, HasCause};
 ghost use Rattle.reo_base.specs.Streams.{IsExtended};
 ghost use Rattle.reo_trace.specs.declared.write.WriteRefusal.TheVariants.{Fault, NoMemory};
+ghost use Rattle.reo_trace.specs.Fronts.{AreFronts};
 ghost use Rattle.reo_trace.specs.ReportText.{step_line, call_line, end_line, report_text};
 ghost use Rattle.reo_trace.specs.Passes.{all_steps, own_calls, all_calls, all_lines, StepsFit, OwnFit, CallsFit, Fits, IfFault, piece};
 ghost use Rattle.reo_trace.specs.Pieces.{Takes};
 
+use crate::fronts::{Fronts, fronts_of};
 use crate::gather::{Gather, PIECE, flush, hand_on};
 use crate::lines::{bytes_at, push_call, push_ending, push_step};
 use crate::measure::{added, measure};
@@ -45,9 +47,11 @@ fn write_step<K: Sink>(
     net: &Net,
     nodes: &Lexicon,
     texts: &Lexicon,
+    fronts: &Fronts,
     number: usize,
     step: &Step,
 ) -> Result<(), Failed>
+    requires fronts { AreFronts net.now nodes.now fronts.now }
     requires room { piece + length (step_line net.now nodes.now texts.now number step.now) ≤ vec_capacity gather.old.held }
     requires total { gather.old.handed + length gather.old.held.items + length (step_line net.now nodes.now texts.now number step.now) < 2 ^ 64 }
     ensures taken { Takes (K.written out.old) (K.written out.new) gather.old.held.items gather.new.held.items gather.old.handed gather.new.handed result (step_line net.now nodes.now texts.now number step.now) }
@@ -55,7 +59,15 @@ fn write_step<K: Sink>(
     ensures cause { HasCause (K.faults out.old) (K.faults out.new) result }
 {
     hand_on(out, gather)?;
-    let Ok(()) = push_step(&mut gather.held, net, nodes, texts, number as u64, step) else {
+    let Ok(()) = push_step(
+        &mut gather.held,
+        net,
+        nodes,
+        texts,
+        fronts,
+        number as u64,
+        step,
+    ) else {
         unreachable!();
     };
     Ok(())
@@ -103,8 +115,10 @@ fn write_steps<K: Sink>(
     net: &Net,
     nodes: &Lexicon,
     texts: &Lexicon,
+    fronts: &Fronts,
     steps: &[Step],
 ) -> Result<(), Failed>
+    requires fronts { AreFronts net.now nodes.now fronts.now }
     requires room { StepsFit net.now nodes.now texts.now steps.now (length steps.now) (vec_capacity gather.old.held) }
     requires total { gather.old.handed + length gather.old.held.items + length (all_steps net.now nodes.now texts.now steps.now) < 2 ^ 64 }
     ensures taken { Takes (K.written out.old) (K.written out.new) gather.old.held.items gather.new.held.items gather.old.handed gather.new.handed result (all_steps net.now nodes.now texts.now steps.now) }
@@ -112,7 +126,7 @@ fn write_steps<K: Sink>(
     ensures cause { HasCause (K.faults out.old) (K.faults out.new) result }
 {
     for (number, step) in steps.iter().enumerate() {
-        write_step(out, gather, net, nodes, texts, number, step)?;
+        write_step(out, gather, net, nodes, texts, fronts, number, step)?;
     }
     Ok(())
 }
@@ -168,15 +182,25 @@ fn write_lines<K: Sink>(
     nodes: &Lexicon,
     texts: &Lexicon,
     people: &Lexicon,
+    fronts: &Fronts,
     report: &Report,
 ) -> Result<(), Failed>
+    requires fronts { AreFronts net.now nodes.now fronts.now }
     requires room { Fits net.now nodes.now texts.now people.now report.now (vec_capacity gather.old.held) }
     requires total { gather.old.handed + length gather.old.held.items + length (all_lines net.now nodes.now texts.now people.now report.now) < 2 ^ 64 }
     ensures taken { Takes (K.written out.old) (K.written out.new) gather.old.held.items gather.new.held.items gather.old.handed gather.new.handed result (all_lines net.now nodes.now texts.now people.now report.now) }
     ensures all { OnOk result (gather.new.held.items ≡ []) }
     ensures cause { HasCause (K.faults out.old) (K.faults out.new) result }
 {
-    write_steps(out, gather, net, nodes, texts, report.steps.as_slice())?;
+    write_steps(
+        out,
+        gather,
+        net,
+        nodes,
+        texts,
+        fronts,
+        report.steps.as_slice(),
+    )?;
     let calls = report.calls.as_slice();
     write_calls(out, gather, net, nodes, texts, people, calls)?;
     write_ending(out, gather, report.ending)?;
@@ -201,10 +225,11 @@ pub fn write_report<K: Sink>(
     ensures later { K.faults out.old ≤ K.faults out.new }
     ensures kept { OnOk result (K.faults out.new ≡ K.faults out.old) }
 {
-    let most = measure(net, nodes, texts, people, report)?;
+    let fronts = fronts_of(alloc, net, nodes)?;
+    let most = measure(net, nodes, texts, people, &fronts, report)?;
     let room = added(PIECE, most)?;
     let mut gather = Gather::new(alloc, room)?;
-    match write_lines(out, &mut gather, net, nodes, texts, people, report) {
+    match write_lines(out, &mut gather, net, nodes, texts, people, &fronts, report) {
         Ok(()) => Ok(()),
         Err(Failed) => Err(WriteRefusal::Fault(gather.handed)),
     }

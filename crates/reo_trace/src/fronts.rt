@@ -1,0 +1,89 @@
+//! What stands before each value in a step's line, made once for each name: it is appended at once.
+ghost use Rattle.std.specs.Prelude.{◌≡◌, ◌+◌, ◌≤◌, ◌<◌, length, IfOk};
+ghost use Rattle.reo_net.specs.Names.{name_count};
+ghost use Rattle.reo_trace.specs.Buffer.{Takes};
+ghost use Rattle.reo_trace.specs.Fronts.{AreFronts, front_text, fronts_below};
+
+use crate::lines::{push_bytes, push_name};
+use reo_net::Net;
+use reo_value::Lexicon;
+use std::alloc::{AllocError, Global};
+
+/// The fronts of all names, one behind the other; where each begins, and where the last ends.
+#[derive(Drop)]
+pub(crate) struct Fronts {
+    bytes: Vec<u8>,
+    starts: Vec<usize>,
+}
+
+/// Where a front begins and ends.
+#[derive(Clone, Copy)]
+struct Place {
+    from: usize,
+    to: usize,
+}
+
+fn push_front(buffer: &mut Vec<u8>, net: &Net, nodes: &Lexicon, name: u32) -> Result<(), AllocError>
+    ensures { Takes buffer.old buffer.new result (front_text net.now nodes.now name) }
+{
+    push_bytes(buffer, b" ")?;
+    push_name(buffer, net, nodes, name)?;
+    push_bytes(buffer, b"=")
+}
+
+/// The fronts of all names of the circuit.
+pub(crate) fn fronts_of(alloc: Global, net: &Net, nodes: &Lexicon) -> Result<Fronts, AllocError>
+    ensures { IfOk result (AreFronts net.now nodes.now) }
+{
+    let mut bytes = Vec::new(alloc);
+    let mut starts = vec![in alloc; 0usize]?;
+    for name in 0..net.names() {
+        push_front(&mut bytes, net, nodes, name)?;
+        starts.push(bytes.len())?;
+    }
+    Ok(Fronts { bytes, starts })
+}
+
+fn place_of(net: &Net, nodes: &Lexicon, fronts: &Fronts, name: u32) -> Place
+    requires fronts { AreFronts net.now nodes.now fronts.now }
+    requires within { name < name_count net.now }
+    ensures from { result.from ≡ length (fronts_below net.now nodes.now name) }
+    ensures to { result.to ≡ length (fronts_below net.now nodes.now (name + 1)) }
+    ensures order { result.from ≤ result.to }
+    ensures within { result.to ≤ length fronts.now.bytes.items }
+{
+    let starts = fronts.starts.as_slice();
+    let name = name as usize;
+    Place {
+        from: starts[name],
+        to: starts[name + 1],
+    }
+}
+
+/// Appends the front of a name, at once where it is made.
+pub(crate) fn push_front_of(
+    buffer: &mut Vec<u8>,
+    net: &Net,
+    nodes: &Lexicon,
+    fronts: &Fronts,
+    name: u32,
+) -> Result<(), AllocError>
+    requires { AreFronts net.now nodes.now fronts.now }
+    ensures { Takes buffer.old buffer.new result (front_text net.now nodes.now name) }
+{
+    if name >= net.names() {
+        return push_front(buffer, net, nodes, name);
+    }
+    let place = place_of(net, nodes, fronts, name);
+    push_bytes(buffer, &fronts.bytes.as_slice()[place.from..place.to])
+}
+
+/// How many bytes the front of a name of the circuit has.
+pub(crate) fn front_len(net: &Net, nodes: &Lexicon, fronts: &Fronts, name: u32) -> usize
+    requires fronts { AreFronts net.now nodes.now fronts.now }
+    requires within { name < name_count net.now }
+    ensures { result ≡ length (front_text net.now nodes.now name) }
+{
+    let place = place_of(net, nodes, fronts, name);
+    place.to - place.from
+}
