@@ -1,4 +1,5 @@
 pub mod BufferLemmas
+pub mod EscapeLemmas
 pub mod FrontLemmas
 pub mod ListLemmas
 pub mod PartLemmas

@@ -1,4 +1,5 @@
 pub mod Buffer
+pub mod Escapes
 pub mod Fronts
 pub mod Lawful
 pub mod Laws

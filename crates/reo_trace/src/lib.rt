@@ -7,6 +7,7 @@ pub mod laws;
 mod lines;
 mod measure;
 mod report;
+mod shown;
 mod write;
 
 pub use lines::{bytes_at, push_bytes, push_decimal, push_name, push_signed, push_value};

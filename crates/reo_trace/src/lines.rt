@@ -1,12 +1,15 @@
 //! The lines of a report's text, each made in a buffer.
 ghost use Rattle.std.specs.Prelude.{◌≡◌, decimal, flat_map, slice_get, Some};
 ghost use Rattle.std.specs.Fmt.{signed_decimal};
+ghost use Rattle.std.specs.List.{list_all};
 ghost use Rattle.reo_value.specs.Lexicon.{text_at};
 ghost use Rattle.reo_trace.specs.Buffer.{Takes};
+ghost use Rattle.reo_trace.specs.Escapes as escapes;
 ghost use Rattle.reo_trace.specs.Fronts.{AreFronts};
 ghost use Rattle.reo_trace.specs.ReportText.{escaped, value_text, node_text, port_text, end_text, name_text, pair_text, step_line, op_text, call_line, end_line};
 
 use crate::fronts::{Fronts, push_front_of};
+use crate::shown::{Shown, push_shown};
 use crate::{Called, Ending};
 use itoa::Buffer;
 use reo_net::{Net, Port, Step};
@@ -67,6 +70,35 @@ fn push_escaped(buffer: &mut Vec<u8>, bytes: &[u8]) -> Result<(), AllocError>
     Ok(())
 }
 
+/// Whether a byte stands between quotes as it is.
+fn is_plain(byte: u8) -> bool
+    ensures { result ≡ escapes.is_plain byte }
+{
+    match byte {
+        b'"' => false,
+        b'\\' => false,
+        b'\n' => false,
+        b'\t' => false,
+        _ => true,
+    }
+}
+
+fn are_plain(bytes: &[u8]) -> bool
+    ensures { result ≡ list_all escapes.is_plain bytes.now }
+{
+    bytes.iter().all(|byte| is_plain(*byte))
+}
+
+/// Appends what stands between the quotes of a text, at once where no byte of it is escaped.
+fn push_text(buffer: &mut Vec<u8>, bytes: &[u8]) -> Result<(), AllocError>
+    ensures { Takes buffer.old buffer.new result (flat_map escaped bytes.now) }
+{
+    if are_plain(bytes) {
+        return push_bytes(buffer, bytes);
+    }
+    push_escaped(buffer, bytes)
+}
+
 /// Appends a value as documents and reports spell it.
 pub fn push_value(buffer: &mut Vec<u8>, texts: &Lexicon, value: Value) -> Result<(), AllocError>
     ensures { Takes buffer.old buffer.new result (value_text texts.now value) }
@@ -75,7 +107,7 @@ pub fn push_value(buffer: &mut Vec<u8>, texts: &Lexicon, value: Value) -> Result
         Value::Int(number) => push_signed(buffer, number.get()),
         Value::Sym(text) => {
             push_bytes(buffer, b"\"")?;
-            push_escaped(buffer, bytes_at(texts, text as usize))?;
+            push_text(buffer, bytes_at(texts, text as usize))?;
             push_bytes(buffer, b"\"")
         }
     }
@@ -134,19 +166,35 @@ pub fn push_name(
     }
 }
 
+/// Appends the value of a name in a step's line.
+fn push_datum(
+    buffer: &mut Vec<u8>,
+    texts: &Lexicon,
+    shown: &mut Shown,
+    value: Value,
+) -> Result<(), AllocError>
+    ensures { Takes buffer.old buffer.new result (value_text texts.now value) }
+{
+    match value {
+        Value::Int(number) => push_shown(buffer, shown, number.get()),
+        Value::Sym(_) => push_value(buffer, texts, value),
+    }
+}
+
 fn push_pair(
     buffer: &mut Vec<u8>,
     net: &Net,
     nodes: &Lexicon,
     texts: &Lexicon,
     fronts: &Fronts,
+    shown: &mut Shown,
     pair: (u32, Value),
 ) -> Result<(), AllocError>
     requires { AreFronts net.now nodes.now fronts.now }
     ensures { Takes buffer.old buffer.new result (pair_text net.now nodes.now texts.now pair) }
 {
     push_front_of(buffer, net, nodes, fronts, pair.0)?;
-    push_value(buffer, texts, pair.1)
+    push_datum(buffer, texts, shown, pair.1)
 }
 
 fn push_pairs(
@@ -155,13 +203,14 @@ fn push_pairs(
     nodes: &Lexicon,
     texts: &Lexicon,
     fronts: &Fronts,
+    shown: &mut Shown,
     pairs: &[(u32, Value)],
 ) -> Result<(), AllocError>
     requires { AreFronts net.now nodes.now fronts.now }
     ensures { Takes buffer.old buffer.new result (flat_map (pair_text net.now nodes.now texts.now) pairs.now) }
 {
     for pair in pairs {
-        push_pair(buffer, net, nodes, texts, fronts, *pair)?;
+        push_pair(buffer, net, nodes, texts, fronts, shown, *pair)?;
     }
     Ok(())
 }
@@ -172,6 +221,7 @@ pub(crate) fn push_step(
     nodes: &Lexicon,
     texts: &Lexicon,
     fronts: &Fronts,
+    shown: &mut Shown,
     number: u64,
     step: &Step,
 ) -> Result<(), AllocError>
@@ -180,7 +230,15 @@ pub(crate) fn push_step(
 {
     push_bytes(buffer, b"step ")?;
     push_decimal(buffer, number)?;
-    push_pairs(buffer, net, nodes, texts, fronts, step.pairs.as_slice())?;
+    push_pairs(
+        buffer,
+        net,
+        nodes,
+        texts,
+        fronts,
+        shown,
+        step.pairs.as_slice(),
+    )?;
     push_bytes(buffer, b"\n")
 }
 

@@ -12,6 +12,7 @@ use crate::fronts::{Fronts, fronts_of};
 use crate::gather::{Gather, PIECE, flush, hand_on};
 use crate::lines::{bytes_at, push_call, push_ending, push_step};
 use crate::measure::{added, measure};
+use crate::shown::Shown;
 use crate::{Called, Ending, Report};
 use reo_base::{Failed, Sink};
 use reo_net::{Net, Step};
@@ -48,6 +49,7 @@ fn write_step<K: Sink>(
     nodes: &Lexicon,
     texts: &Lexicon,
     fronts: &Fronts,
+    shown: &mut Shown,
     number: usize,
     step: &Step,
 ) -> Result<(), Failed>
@@ -65,6 +67,7 @@ fn write_step<K: Sink>(
         nodes,
         texts,
         fronts,
+        shown,
         number as u64,
         step,
     ) else {
@@ -125,8 +128,11 @@ fn write_steps<K: Sink>(
     ensures capacity { vec_capacity gather.old.held ≤ vec_capacity gather.new.held }
     ensures cause { HasCause (K.faults out.old) (K.faults out.new) result }
 {
+    let mut shown = Shown::new(0);
     for (number, step) in steps.iter().enumerate() {
-        write_step(out, gather, net, nodes, texts, fronts, number, step)?;
+        write_step(
+            out, gather, net, nodes, texts, fronts, &mut shown, number, step,
+        )?;
     }
     Ok(())
 }
