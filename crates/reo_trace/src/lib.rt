@@ -6,6 +6,7 @@ mod gather;
 pub mod laws;
 mod lines;
 mod measure;
+mod numbers;
 mod report;
 mod shown;
 mod write;

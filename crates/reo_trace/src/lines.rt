@@ -9,6 +9,7 @@ ghost use Rattle.reo_trace.specs.Fronts.{AreFronts};
 ghost use Rattle.reo_trace.specs.ReportText.{escaped, value_text, node_text, port_text, end_text, name_text, pair_text, step_line, op_text, call_line, end_line};
 
 use crate::fronts::{Fronts, push_front_of};
+use crate::numbers::push_place;
 use crate::shown::{Shown, push_shown};
 use crate::{Called, Ending};
 use itoa::Buffer;
@@ -272,9 +273,7 @@ pub(crate) fn push_call(
     push_op(buffer, net, nodes, call.op)?;
     push_bytes(buffer, b" ")?;
     push_value(buffer, texts, call.value)?;
-    push_bytes(buffer, b" at ")?;
-    push_decimal(buffer, call.number)?;
-    push_bytes(buffer, b"\n")
+    push_place(buffer, call.number)
 }
 
 pub(crate) fn push_ending(buffer: &mut Vec<u8>, ending: Ending) -> Result<(), AllocError>
