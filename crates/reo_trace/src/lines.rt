@@ -9,7 +9,7 @@ ghost use Rattle.reo_trace.specs.Fronts.{AreFronts};
 ghost use Rattle.reo_trace.specs.ReportText.{escaped, value_text, node_text, port_text, end_text, name_text, pair_text, step_line, op_text, call_line, end_line};
 
 use crate::fronts::{Fronts, push_front_of};
-use crate::numbers::push_place;
+use crate::numbers::{push_place, push_step_number};
 use crate::shown::{Shown, push_shown};
 use crate::{Called, Ending};
 use itoa::Buffer;
@@ -229,8 +229,7 @@ pub(crate) fn push_step(
     requires { AreFronts net.now nodes.now fronts.now }
     ensures { Takes buffer.old buffer.new result (step_line net.now nodes.now texts.now number step.now) }
 {
-    push_bytes(buffer, b"step ")?;
-    push_decimal(buffer, number)?;
+    push_step_number(buffer, number)?;
     push_pairs(
         buffer,
         net,

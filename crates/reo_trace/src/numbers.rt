@@ -28,3 +28,17 @@ pub(crate) fn push_place(buffer: &mut Vec<u8>, number: u64) -> Result<(), AllocE
     let first = put_before(&mut made, second, b' ');
     push_bytes(buffer, &made[first..])
 }
+
+/// Appends a step's number, with the word before it.
+pub(crate) fn push_step_number(buffer: &mut Vec<u8>, number: u64) -> Result<(), AllocError>
+    ensures { Takes buffer.old buffer.new result (codes "step " ++ decimal number) }
+{
+    let mut made = [0; 32];
+    let digits = write_digits(number, &mut made, 32);
+    let last = put_before(&mut made, digits, b' ');
+    let fourth = put_before(&mut made, last, b'p');
+    let third = put_before(&mut made, fourth, b'e');
+    let second = put_before(&mut made, third, b't');
+    let first = put_before(&mut made, second, b's');
+    push_bytes(buffer, &made[first..])
+}
