@@ -1,4 +1,5 @@
 pub mod HasLemmas
+pub mod EndLemmas
 pub mod ChannelLaw
 pub mod NodeLaw
 pub mod TemplateLaw

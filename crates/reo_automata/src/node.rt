@@ -1,22 +1,12 @@
 //! The links of a node.
-ghost use Rattle.std.specs.Prelude.{◌≡◌, not, nat_eq, ◌||◌, filter, IfOk};
+ghost use Rattle.std.specs.Prelude.{◌≡◌, ◌∷◌, [], ◌++◌, cond, length, not, nat_eq, ◌||◌, filter, IfOk};
 ghost use Rattle.std.specs.List.{list_any, range_with_len};
-ghost use Rattle.reo_net.specs.Names.{name_count};
 ghost use Rattle.reo_automata.specs.Links.{is_at, is_in, serving, input_link, node_names, node_links};
 
 use crate::template::{Link, Rule, Template};
 use reo_net::{Net, stand_of};
 use sqlite_items::Items;
 use std::alloc::{AllocError, Global};
-
-fn is_at(net: &Net, node: u32, name: u32) -> bool
-    ensures { result ≡ is_at net.now node name }
-{
-    match stand_of(net, name) {
-        Some(stand) => stand.node == node,
-        None => false,
-    }
-}
 
 fn is_in(net: &Net, name: u32) -> bool
     ensures { result ≡ is_in net.now name }
@@ -27,15 +17,37 @@ fn is_in(net: &Net, name: u32) -> bool
     }
 }
 
+/// Appends a name that is wanted.
+fn push_wanted(names: &mut Vec<u32>, is_wanted: bool, name: u32) -> Result<(), AllocError>
+    ensures { IfOk result (λ _. names.new.items ≡ names.old.items ++ cond is_wanted (name ∷ []) []) }
+{
+    if is_wanted {
+        names.push(name)?;
+    }
+    Ok(())
+}
+
+/// The ports of a node.
+fn node_ports(alloc: Global, net: &Net, node: u32) -> Result<Vec<u32>, AllocError>
+    ensures { IfOk result (λ names. names.items ≡ filter (is_at net.now node) (range_with_len 0 (length net.now.ports))) }
+{
+    let mut names = Vec::new(alloc);
+    for (number, port) in net.ports().iter().enumerate() {
+        push_wanted(&mut names, port.node == node, number as u32)?;
+    }
+    Ok(names)
+}
+
 /// The names of a node.
 fn node_names(alloc: Global, net: &Net, node: u32) -> Result<Vec<u32>, AllocError>
     ensures { IfOk result (λ names. names.items ≡ node_names net.now node) }
 {
-    let mut names = Vec::new(alloc);
-    for name in 0..net.names() {
-        if is_at(net, node, name) {
-            names.push(name)?;
-        }
+    let mut names = node_ports(alloc, net, node)?;
+    let ports = net.ports().len();
+    for (number, channel) in net.channels().iter().enumerate() {
+        let end = (ports + 2 * number) as u32;
+        push_wanted(&mut names, channel.a == node, end)?;
+        push_wanted(&mut names, channel.b == node, end + 1)?;
     }
     Ok(names)
 }

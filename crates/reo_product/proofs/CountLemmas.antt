@@ -18,7 +18,7 @@ use Rattle.reo_product.specs.RegionWeb.{name_at, IsRegionWeb}
 use Rattle.reo_product.specs.Growth.{Move, PartialFiring, with_move, fired, IsTransition, IsLeastOpen, Agrees, IsVertex, HasGrowth}
 use Rattle.reo_product.specs.Growth.IsVertex.{alone, child}
 use Rattle.reo_product.specs.Laws.{GrowthIsOne, FiringsAreSoMany, RegionsHaveGrowth, WebsHaveGrowth}
-use Rattle.reo_product.specs.Table.{AreFirings, HasFirings}
+use Rattle.reo_product.specs.Table.{AreFirings}
 use Rattle.reo_product.proofs.BridgeLemmas.{one_number, of_place, of_region, place_in}
 use Rattle.reo_product.proofs.MadeLemmas.{made_web}
 use Rattle.reo_product.proofs.ExistLemmas.{regions_have_webs}

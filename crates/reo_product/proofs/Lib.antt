@@ -6,6 +6,7 @@ pub mod SplitLemmas
 pub mod PlaceLemmas
 pub mod PlacedLemmas
 pub mod MadeLemmas
+pub mod CellLemmas
 pub mod WebLemmas
 pub mod RegionLemmas
 pub mod ExistLemmas

@@ -1,5 +1,6 @@
 -- Words that mirror the code: lists of names as lists of their places.
-use Rattle.std.specs.Prelude.{◌≡◌, ℕ, ◌<◌, List, [], ◌∷◌, length, map, slice_get, slice_index, All, Bool, true, Option, Some, None, ◌+◌}
+use Rattle.std.specs.Prelude.{◌≡◌, ℕ, ◌<◌, List, [], ◌∷◌, length, map, slice_get, slice_index, All, Bool, true, false, ◌||◌, nat_lt, nat_eq, if◌then◌else◌, Option, Some, None, ◌+◌, ◌-◌, ◌/◌, ◌%◌}
+use Rattle.std.specs.Option.{option_map_or}
 use Rattle.reo_net.specs.declared.circuit.Channel.{Channel}
 use Rattle.reo_net.specs.declared.circuit.RawCircuit.{RawCircuit}
 use Rattle.reo_net.specs.Names.{end_a, end_b}
@@ -68,6 +69,13 @@ pub record AreCells (c : RawCircuit) (names : List ℕ) (count : ℕ) (cells : L
   pub only : (a b : ℕ) → Among (a, b) cells → IsCell c names a b
   pub all : (k : ℕ) (channel : Channel) → k < count → slice_get c.channels k ≡ Some channel → is_fifo channel.kind ≡ true
       → (a b : ℕ) → a < length names → b < length names → name_at names a ≡ end_a c k → name_at names b ≡ end_b c k → Among (a, b) cells
+
+-- whether the name is that of the first end of a buffer
+abbrev pub begins_buffer : RawCircuit → ℕ → Bool
+begins_buffer c name =
+    if nat_lt name (length c.ports) || nat_eq ((name - length c.ports) % 2) 1
+    then false
+    else option_map_or (λ channel. is_fifo channel.kind) (slice_get c.channels ((name - length c.ports) / 2)) false
 
 -- the automata of the region of root, by their numbers, rising
 pub record AreRegionAutomata (c : RawCircuit) (root : Automaton) (region : List ℕ) : Type 0 where

@@ -1,17 +1,17 @@
 //! The web of a region.
-ghost use Rattle.std.specs.Prelude.{◌≡◌, ℕ, ◌+◌, ◌<◌, ◌^◌, length, All, IfOk};
+ghost use Rattle.std.specs.Prelude.{◌≡◌, ℕ, ◌+◌, ◌<◌, ◌^◌, length, true, All, IfOk};
 ghost use Rattle.std.specs.List.Sorted.{IsStrictlyIncreasing};
 ghost use Rattle.reo_net.specs.Checks.{IsChecked};
 ghost use Rattle.reo_net.specs.Regions.{Automaton as AnyAutomaton};
 ghost use Rattle.reo_growth.specs.Web.{AreFew, IsWeb};
 ghost use Rattle.reo_product.specs.RegionWeb.{IsRegionWeb};
-ghost use Rattle.reo_product.specs.Places.{AreCells, AreNamesOf, ArePaired, AreRegionAutomata, AreTemplates, FindsCell, IsKnownTemplate, IsPlacedTemplate};
+ghost use Rattle.reo_product.specs.Places.{AreCells, AreNamesOf, ArePaired, AreRegionAutomata, AreTemplates, FindsCell, begins_buffer, IsKnownTemplate, IsPlacedTemplate};
 
 use crate::places::{place_of, place_template};
 use reo_automata::{Template, template_of};
 use reo_growth::{Automaton, Web};
 use reo_net::Net;
-use sqlite_items::Items;
+use sqlite_items::{Items, at};
 use std::alloc::{AllocError, Global};
 
 /// A region as a web, and its names: the name at a place of the list is known in the web by that place.
@@ -70,21 +70,35 @@ fn cells_of(alloc: Global, net: &Net, names: &[u32]) -> Result<Items<(u32, u32)>
     ensures { IfOk result (AreCells net.now names.now (length net.now.channels)) }
 {
     let mut cells = Items::new(alloc);
-    let channels = net.channels();
-    let ports = net.ports().len();
-    for (number, channel) in channels.iter().enumerate() {
-        if let Some(cell) = cell_of(names, channel.kind.is_fifo(), (ports + 2 * number) as u32) {
+    for name in names {
+        if let Some(cell) = cell_of(names, begins_buffer(net, *name), *name) {
             cells.push(cell)?;
         }
     }
     Ok(cells)
 }
 
+/// Whether a name is that of end a of a FIFO1.
+fn begins_buffer(net: &Net, name: u32) -> bool
+    ensures is { result ≡ begins_buffer net.now name }
+    ensures fits { result ≡ true → name + 1 < 2 ^ 32 }
+{
+    let name = name as usize;
+    let ports = net.ports().len();
+    if name < ports || (name - ports) % 2 == 1 {
+        return false;
+    }
+    match at(net.channels(), (name - ports) / 2) {
+        Some(channel) => channel.kind.is_fifo(),
+        None => false,
+    }
+}
+
 /// The places of both ends of a FIFO1, by the name of its end a; none where it is no FIFO1 or an end is not among the names.
 fn cell_of(names: &[u32], is_fifo: bool, a: u32) -> Option<(u32, u32)>
     requires rising { IsStrictlyIncreasing names.now }
     requires few { length names.now < 2 ^ 32 }
-    requires fits { a + 1 < 2 ^ 32 }
+    requires fits { is_fifo ≡ true → a + 1 < 2 ^ 32 }
     ensures { FindsCell names.now is_fifo a result }
 {
     if !is_fifo {

@@ -1,7 +1,8 @@
 use Rattle.std.proofs.Common.{◌≡◌, filter}
 use Rattle.std.specs.List.{range_with_len}
+use Rattle.reo_net.specs.Names.{end_a}
 use Rattle.reo_automata.specs.Links.{is_at}
 use Rattle.reo_automata.proofs.node.node_names.Given as goal
 
-abbrev pub invariant-loop-name : goal.invariant-loop-name
-invariant-loop-name l = l.names.items ≡ filter (is_at l.net l.node) (range_with_len 0 l.name)
+abbrev pub invariant-loop-number : goal.invariant-loop-number
+invariant-loop-number l = l.names.items ≡ filter (is_at l.net l.node) (range_with_len 0 (end_a l.net l.number))

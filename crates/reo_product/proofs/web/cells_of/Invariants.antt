@@ -1,5 +1,5 @@
-use Rattle.reo_product.specs.Places.{AreCells}
+use Rattle.reo_product.proofs.CellLemmas.{AreFirstCells}
 use Rattle.reo_product.proofs.web.cells_of.Given as goal
 
-abbrev pub invariant-loop-number : goal.invariant-loop-number
-invariant-loop-number l = AreCells l.net l.names l.number l.cells
+abbrev pub invariant-loop-name : goal.invariant-loop-name
+invariant-loop-name l = AreFirstCells l.net l.names l.name-index l.cells

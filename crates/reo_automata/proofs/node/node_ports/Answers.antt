@@ -1,0 +1,20 @@
+use Rattle.std.proofs.Common.{◌≡◌, ℕ, ◌++◌, ◌∷◌, [], List, cond, get_or, slice_get, nat_eq, Some, sym, subst, ap, ◌∙◌}
+use Rattle.std.proofs.lemmas.Option.{slice_get-get_or}
+use Rattle.reo_value.specs.declared.op.Way.TheVariants.{Put}
+use Rattle.reo_net.specs.declared.circuit.Port.{Port}
+use Rattle.reo_automata.specs.Links.{is_at}
+use Rattle.reo_automata.proofs.EndLemmas.{chosen_more, port_is_at}
+use Rattle.reo_automata.proofs.node.node_ports.Goals as goal
+
+pub loop-number-preserved : goal.loop-number-preserved
+loop-number-preserved c =
+    let net = c.args.net.now in
+    let node = c.args.node in
+    let i = c.loop-number.number in
+    let ports = c.ports-port-items.result.now in
+    let none : Port = record { node = 0; way = Put } in
+    let port : Port = get_or ports i none in
+    let found = subst (λ (all : List Port). slice_get all i ≡ Some port) c.ports-port-items.ensures.ports (slice_get-get_or ports i none c.loop-number-test.true) in
+    c.in_ok-push_wanted.ensures
+    ∙ (ap (λ (list : List ℕ). list ++ cond (nat_eq port.node node) (i ∷ []) []) c.loop-number.invariant
+    ∙ sym (chosen_more (is_at net node) i (nat_eq port.node node) (port_is_at net node i port found)))
