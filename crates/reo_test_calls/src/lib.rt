@@ -1,10 +1,8 @@
-//! Tests of whole calls: documents with their status and what is written, and lines that are refused.
+//! Tests of whole calls: documents with their status and what is written.
 #![tactic(auto)]
 
 #[cfg(test)]
 mod each_call;
-#[cfg(test)]
-mod refused_lines;
 #[cfg(test)]
 mod rows;
 #[cfg(test)]

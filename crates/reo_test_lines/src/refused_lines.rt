@@ -145,67 +145,77 @@ fn a_name_of_65_bytes_goes_wrong_wherever_it_stands(rt: HostRuntime) {
     }
 }
 
+/// Texts that are refused for what their tokens say.
+const REFUSED: [(&str, TextRefusal); 16] = [
+    (
+        "fifo A B full 4611686018427387904\n",
+        TextRefusal::NumberRange(1),
+    ),
+    (
+        "fifo A B full -4611686018427387905\n",
+        TextRefusal::NumberRange(1),
+    ),
+    (
+        "fifo A B full 99999999999999999999999\n",
+        TextRefusal::NumberRange(1),
+    ),
+    ("filter A B x mod 0 = 0\n", TextRefusal::NumberRange(1)),
+    ("filter A B x mod 5 = 7\n", TextRefusal::NumberRange(1)),
+    (
+        "filter A B x mod 1000001 = 7\n",
+        TextRefusal::NumberRange(1),
+    ),
+    ("filter A B len <= 256\n", TextRefusal::NumberRange(1)),
+    ("filter A B len <= -1\n", TextRefusal::NumberRange(1)),
+    ("in A\ncomponent c\nget A\n", TextRefusal::WrongWay(3)),
+    ("out A\ncomponent c\nput A 1\n", TextRefusal::WrongWay(3)),
+    (
+        "in A\nout A\ncomponent c\nput A 1\nget A\n",
+        TextRefusal::WrongWay(5),
+    ),
+    (
+        "fifo A B\ncomponent c\nput A 1\n",
+        TextRefusal::UnknownPort(3),
+    ),
+    ("in A\ncomponent c\nput B 1\n", TextRefusal::UnknownPort(3)),
+    (
+        "in A\ncomponent c\nput A 1\ncomponent d\nput A 2\n",
+        TextRefusal::PortShared(5),
+    ),
+    ("component c\ncomponent c\n", TextRefusal::ComponentTwice(2)),
+    (
+        "component c\ncomponent c\nin A\n",
+        TextRefusal::ComponentTwice(2),
+    ),
+];
+
+/// Texts at the bounds that these pass.
+const ACCEPTED: [&str; 7] = [
+    "fifo A B full 4611686018427387903\n",
+    "fifo A B full -4611686018427387904\n",
+    "filter A B x mod 1000000 = 999999\n",
+    "filter A B len <= 255\n",
+    "in A\ncomponent c\nput A 1\n",
+    "out A\ncomponent c\nget A\nget A\n",
+    "in A\nin B\ncomponent c\nput A 1\ncomponent d\nput B 2\n",
+];
+
 #[test]
 fn other_refusals_tell_their_line(rt: HostRuntime) {
-    for (text, refusal) in [
-        (
-            "fifo A B full 4611686018427387904\n",
-            TextRefusal::NumberRange(1),
-        ),
-        (
-            "fifo A B full -4611686018427387905\n",
-            TextRefusal::NumberRange(1),
-        ),
-        (
-            "fifo A B full 99999999999999999999999\n",
-            TextRefusal::NumberRange(1),
-        ),
-        ("filter A B x mod 0 = 0\n", TextRefusal::NumberRange(1)),
-        ("filter A B x mod 5 = 7\n", TextRefusal::NumberRange(1)),
-        (
-            "filter A B x mod 1000001 = 7\n",
-            TextRefusal::NumberRange(1),
-        ),
-        ("filter A B len <= 256\n", TextRefusal::NumberRange(1)),
-        ("filter A B len <= -1\n", TextRefusal::NumberRange(1)),
-        ("in A\ncomponent c\nget A\n", TextRefusal::WrongWay(3)),
-        ("out A\ncomponent c\nput A 1\n", TextRefusal::WrongWay(3)),
-        (
-            "in A\nout A\ncomponent c\nput A 1\nget A\n",
-            TextRefusal::WrongWay(5),
-        ),
-        (
-            "fifo A B\ncomponent c\nput A 1\n",
-            TextRefusal::UnknownPort(3),
-        ),
-        ("in A\ncomponent c\nput B 1\n", TextRefusal::UnknownPort(3)),
-        (
-            "in A\ncomponent c\nput A 1\ncomponent d\nput A 2\n",
-            TextRefusal::PortShared(5),
-        ),
-        ("component c\ncomponent c\n", TextRefusal::ComponentTwice(2)),
-        (
-            "component c\ncomponent c\nin A\n",
-            TextRefusal::ComponentTwice(2),
-        ),
-    ] {
+    for (text, refusal) in REFUSED {
         assert_eq!(rt;
             refusal_of(rt.alloc(), text.as_bytes()),
             Some(refusal),
             "at {text}"
         );
     }
-    for text in [
-        "fifo A B full 4611686018427387903\n",
-        "fifo A B full -4611686018427387904\n",
-        "filter A B x mod 1000000 = 999999\n",
-        "filter A B len <= 255\n",
-        "in A\ncomponent c\nput A 1\n",
-        "out A\ncomponent c\nget A\nget A\n",
-        "in A\nin B\ncomponent c\nput A 1\ncomponent d\nput B 2\n",
-    ] {
+    for text in ACCEPTED {
         assert_eq!(rt; refusal_of(rt.alloc(), text.as_bytes()), None, "at {text}");
     }
+}
+
+#[test]
+fn bytes_that_are_not_utf8_are_told_first(rt: HostRuntime) {
     assert_eq!(rt;
         refusal_of(rt.alloc(), b"in A\n\xff\n"),
         Some(TextRefusal::NotUtf8(5))
