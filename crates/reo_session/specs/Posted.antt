@@ -16,7 +16,8 @@ use Rattle.reo_schedule.specs.Offers.{offered_by}
 
 -- each operation is at a port of the fabric, of its way, and one component alone uses a port
 pub record ScriptsFitFabric (fabric : Fabric) (scripts : List (List Op)) : Type 0 where
-  pub ported : (k : ℕ) (op : Op) → IsOperationOf scripts k op → (spec : PortSpec) × (slice_get fabric.ports (port_of op) ≡ Some spec) × (spec.way ≡ way_of op)
+  pub ported : (k : ℕ) (op : Op) → IsOperationOf scripts k op
+      → (spec : PortSpec) × (slice_get fabric.ports (port_of op) ≡ Some spec) × (spec.way ≡ way_of op)
   pub unshared : (j k : ℕ) (op other : Op) → IsOperationOf scripts j op → IsOperationOf scripts k other → port_of op ≡ port_of other → j ≡ k
 
 -- no component's next operation is at the port
@@ -36,7 +37,8 @@ pub record IsAnswered (ports : List PortState) (port : ℕ) : Type 0 where
 
 -- the same, where some may have been answered
 pub record AreOpen (scripts : List (List Op)) (calls : List (List Called)) (ports : List PortState) : Type 0 where
-  pub open_there : (k : ℕ) (op : Op) → IsNextOf scripts calls k op → (port_at ports (port_of op) ≡ Offered (offered_by op)) ⊎ IsAnswered ports (port_of op)
+  pub open_there : (k : ℕ) (op : Op) → IsNextOf scripts calls k op
+      → (port_at ports (port_of op) ≡ Offered (offered_by op)) ⊎ IsAnswered ports (port_of op)
   pub idle : (port : ℕ) → IsFree scripts calls port → port_at ports port ≡ Idle
 
 -- the call that the answer at its port makes of an operation
@@ -85,7 +87,8 @@ pub record MayCollect (fabric : Fabric) (ports : List PortState) (next behind : 
   pub then_posts : (op other : Op) → next ≡ Some op → behind ≡ Some other → MayPost fabric (slice_set ports (port_of op) Idle) other
 
 -- some answers were collected, and those that stand still make the calls that all made before
-pub record IsCollected (scripts : List (List Op)) (was_ports : List PortState) (was : List (List Called)) (ports : List PortState) (calls : List (List Called)) : Type 0 where
+pub record IsCollected (scripts : List (List Op)) (was_ports : List PortState) (was : List (List Called))
+    (ports : List PortState) (calls : List (List Called)) : Type 0 where
   pub as_many : length calls ≡ length was
   pub ports_long : length ports ≡ length was_ports
   pub are_open : AreOpen scripts calls ports

@@ -19,7 +19,8 @@ use Rattle.reo_schedule.specs.UnderWay.{IsUnderWay}
 use Rattle.reo_session.specs.Posted.{ArePosted}
 
 -- what an engine has done, and what was kept of it, are turns of the plain schedule
-pub record IsRunning {D : Type 0} (c : RawCircuit) (texts : List (List ℕ)) (scripts : List (List Op)) (fabric : Fabric) (tables : List Table) (limit : ℕ) (decider : D)
+pub record IsRunning {D : Type 0} (c : RawCircuit) (texts : List (List ℕ)) (scripts : List (List Op)) (fabric : Fabric)
+    (tables : List Table) (limit : ℕ) (decider : D)
     (engine : EngineState D) (steps : List Step) (calls : List (List Called)) (place : ℕ) : Type 0 where
   pub turns : List Turn
   pub under_way : IsUnderWay c texts scripts fabric tables limit turns
@@ -35,17 +36,22 @@ pub record IsRunning {D : Type 0} (c : RawCircuit) (texts : List (List ℕ)) (sc
   pub posted : ArePosted scripts calls engine.ports
 
 -- the region fires, and none before it in cyclic order from a place on has a choice
-pub record FiresNext {D : Type 0} (allows : ℕ → Reading → Entry → Type 0) (first_choice : ℕ → Reading → Option ℕ) (old new : EngineState D) (place region : ℕ) : Type 0 where
+pub record FiresNext {D : Type 0} (allows : ℕ → Reading → Entry → Type 0) (first_choice : ℕ → Reading → Option ℕ)
+    (old new : EngineState D) (place region : ℕ) : Type 0 where
   pub within : region < old.fabric.regions
   pub number : ℕ
   pub fires : Fires allows first_choice region old new number
-  pub passed : (earlier : ℕ) → earlier < old.fabric.regions → rank_from old.fabric.regions place earlier < rank_from old.fabric.regions place region → first_choice earlier (engine_reading old earlier) ≡ None
+  pub passed : (earlier : ℕ) → earlier < old.fabric.regions
+      → rank_from old.fabric.regions place earlier < rank_from old.fabric.regions place region
+      → first_choice earlier (engine_reading old earlier) ≡ None
 
 -- the first operations of the first components, so many, are offered, and nothing else
 pub record IsPosting (scripts : List (List Op)) (count ports_count : ℕ) (ports : List PortState) : Type 0 where
   pub ports_long : length ports ≡ ports_count
-  pub posted : (k : ℕ) (script : List Op) (op : Op) → k < count → slice_get scripts k ≡ Some script → slice_get script 0 ≡ Some op → port_at ports (port_of op) ≡ Offered (offered_by op)
-  pub idle : (port : ℕ) → ((k : ℕ) (script : List Op) (op : Op) → k < count → slice_get scripts k ≡ Some script → slice_get script 0 ≡ Some op → port_of op ≡ port → ⊥) → port_at ports port ≡ Idle
+  pub posted : (k : ℕ) (script : List Op) (op : Op) → k < count → slice_get scripts k ≡ Some script
+      → slice_get script 0 ≡ Some op → port_at ports (port_of op) ≡ Offered (offered_by op)
+  pub idle : (port : ℕ)
+      → ((k : ℕ) (script : List Op) (op : Op) → k < count → slice_get scripts k ≡ Some script → slice_get script 0 ≡ Some op → port_of op ≡ port → ⊥) → port_at ports port ≡ Idle
 
 -- each script has as many operations as calls
 abbrev pub same_lengths : List (List Op) → List (List Called) → Bool

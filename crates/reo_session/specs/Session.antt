@@ -22,7 +22,8 @@ firings_of tables = map (λ table. map names_in table.firings) tables
 
 -- the circuit with its regions, scripts that fit it, and one who chooses by its tables
 pub record IsSet (c : RawCircuit) (texts : List (List ℕ)) (scripts : List (List Op)) (fabric : Fabric) (tables : List Table)
-    (allows : ℕ → Reading → Entry → Type 0) (first_choice : ℕ → Reading → Option ℕ) (may_step : Entry → Type 0) (has_step : Entry → Step → Type 0) : Type 0 where
+    (allows : ℕ → Reading → Entry → Type 0) (first_choice : ℕ → Reading → Option ℕ) (may_step : Entry → Type 0)
+    (has_step : Entry → Step → Type 0) : Type 0 where
   pub checked : IsChecked c
   pub brings : BringsValues c texts
   pub fit : ScriptsFit c scripts

@@ -6,10 +6,12 @@ use Rattle.reo_fabric.specs.Engine.{EngineState, engine_reading, Fires}
 
 -- no region from one number up to another has a choice
 abbrev pub AreQuiet : {D : Type 0} → (ℕ → Reading → Option ℕ) → EngineState D → ℕ → ℕ → Type 0
-AreQuiet first_choice engine from to = (region : ℕ) → from ≤ region → region < to → first_choice region (engine_reading engine region) ≡ None
+AreQuiet first_choice engine from to = (region : ℕ) → from ≤ region → region < to
+    → first_choice region (engine_reading engine region) ≡ None
 
 -- the region fires, and none from one number up to it has a choice
-pub record FiresFirst {D : Type 0} (Allows : ℕ → Reading → Entry → Type 0) (first_choice : ℕ → Reading → Option ℕ) (old new : EngineState D) (from region : ℕ) : Type 0 where
+pub record FiresFirst {D : Type 0} (Allows : ℕ → Reading → Entry → Type 0) (first_choice : ℕ → Reading → Option ℕ)
+    (old new : EngineState D) (from region : ℕ) : Type 0 where
   pub after : from ≤ region
   pub number : ℕ
   pub fires : Fires Allows first_choice region old new number

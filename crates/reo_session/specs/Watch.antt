@@ -35,7 +35,8 @@ Knows scripts calls waiting = (k : ℕ) (op : Op) → IsNextOf scripts calls k o
 -- it has for the port of each of the first components' first operation, of so many, the component
 abbrev pub KnowsFirst : List (List Op) → ℕ → List ℕ → Type 0
 KnowsFirst scripts count waiting =
-    (k : ℕ) (script : List Op) (op : Op) → k < count → slice_get scripts k ≡ Some script → slice_get script 0 ≡ Some op → slice_get waiting (port_of op) ≡ Some k
+    (k : ℕ) (script : List Op) (op : Op) → k < count → slice_get scripts k ≡ Some script → slice_get script 0 ≡ Some op
+    → slice_get waiting (port_of op) ≡ Some k
 
 -- the region is not awake
 abbrev pub IsAsleep : List Bool → ℕ → Type 0
@@ -47,7 +48,8 @@ AreAsleep awake from to = (region : ℕ) → from ≤ region → region < to →
 
 -- no region that is asleep has a choice
 abbrev pub AsleepAreQuiet : {D : Type 0} → (ℕ → Reading → Option ℕ) → EngineState D → List Bool → Type 0
-AsleepAreQuiet first_choice engine awake = (region : ℕ) → IsAsleep awake region → first_choice region (engine_reading engine region) ≡ None
+AsleepAreQuiet first_choice engine awake =
+    (region : ℕ) → IsAsleep awake region → first_choice region (engine_reading engine region) ≡ None
 
 -- the table has the region at none of the places
 abbrev pub AreApart : List ℕ → List (ℕ × Value) → ℕ → Type 0
@@ -77,10 +79,12 @@ pub record WakesFor (entry : Entry) (old new : Watch) : Type 0 where
 
 -- those that are asleep were so, and read what they read before
 abbrev pub KeepsAsleep : {D : Type 0} → EngineState D → List Bool → EngineState D → List Bool → Type 0
-KeepsAsleep old was new awake = (region : ℕ) → IsAsleep awake region → IsAsleep was region × (engine_reading new region ≡ engine_reading old region)
+KeepsAsleep old was new awake = (region : ℕ) → IsAsleep awake region
+    → IsAsleep was region × (engine_reading new region ≡ engine_reading old region)
 
 -- what is asked where answers are taken
-pub record MayTake {D : Type 0} (scripts : List (List Op)) (engine : EngineState D) (watch : Watch) (calls : List (List Called)) : Type 0 where
+pub record MayTake {D : Type 0} (scripts : List (List Op)) (engine : EngineState D) (watch : Watch)
+    (calls : List (List Called)) : Type 0 where
   pub as_many : length calls ≡ length scripts
   pub fit : ScriptsFitFabric engine.fabric scripts
   pub long : length engine.ports ≡ length engine.fabric.ports
@@ -90,7 +94,8 @@ pub record MayTake {D : Type 0} (scripts : List (List Op)) (engine : EngineState
   pub knows : Knows scripts calls watch.waiting.items
 
 -- some answers were taken, and the operations behind offered
-pub record TakesAnswers {D : Type 0} (scripts : List (List Op)) (old : EngineState D) (was : Watch) (calls : List (List Called)) (new : EngineState D) (watch : Watch) (later : List (List Called)) : Type 0 where
+pub record TakesAnswers {D : Type 0} (scripts : List (List Op)) (old : EngineState D) (was : Watch)
+    (calls : List (List Called)) (new : EngineState D) (watch : Watch) (later : List (List Called)) : Type 0 where
   pub collected : IsCollected scripts old.ports calls new.ports later
   pub engine : WithPorts old new new.ports
   pub places : HasPlacesOf was watch
@@ -103,7 +108,8 @@ abbrev pub AreAnsweredAt : List (ℕ × Value) → List (ℕ × Value) → List 
 AreAnsweredAt puts gets ports = (port : ℕ) → at_place puts port ≡ None → at_place gets port ≡ None → IsAnswered ports port → ⊥
 
 -- what is known of a run between two turns: who waits, and that what is asleep is quiet
-pub record IsWatching {D : Type 0} (first_choice : ℕ → Reading → Option ℕ) (scripts : List (List Op)) (engine : EngineState D) (watch : Watch) (calls : List (List Called)) : Type 0 where
+pub record IsWatching {D : Type 0} (first_choice : ℕ → Reading → Option ℕ) (scripts : List (List Op)) (engine : EngineState D)
+    (watch : Watch) (calls : List (List Called)) : Type 0 where
   pub is_watch : IsWatch engine.fabric watch
   pub waiting : length watch.waiting.items ≡ length engine.fabric.ports
   pub knows : Knows scripts calls watch.waiting.items

@@ -32,6 +32,7 @@ pub(crate) struct Board<'a> {
     pub texts: &'a Lexicon,
     pub scripts: &'a [Items<Op>],
     pub tables: &'a [RegionTable],
+    pub regions: u32,
     pub limit: u64,
 }
 
@@ -44,11 +45,10 @@ fn turn<P: Stepper>(
     alloc: Global,
     board: Board<'_>,
     plan: &P,
-    regions: u32,
     place: u32,
 ) -> Result<Option<u32>, AllocError>
     requires set { IsSet board.net.now board.texts.now board.scripts.now engine.old.fabric (firings_of board.tables.now) (P.allows plan.now) (P.first_choice plan.now) (P.may_step plan.now) (P.has_step plan.now) }
-    requires regions { regions ≡ engine.old.fabric.regions }
+    requires regions { board.regions ≡ engine.old.fabric.regions }
     requires chooser { engine.old.decider.now ≡ plan.now }
     requires few { engine.old.count < 2 ^ 63 }
     requires left { AllAnswered board.scripts.now progress.old.calls.items → ⊥ }
@@ -58,12 +58,12 @@ fn turn<P: Stepper>(
     ensures running { IfOk result (λ next. IfSome next (IsRunning board.entry.net.now board.entry.texts.now board.entry.scripts.now engine.old.fabric (firings_of board.entry.tables.now) board.entry.limit engine.old.decider engine.new progress.new.steps.items progress.new.calls.items)) }
     ensures watching { IfOk result (λ next. IfSome next (λ _. IsWatching (P.first_choice plan.now) board.entry.scripts.now engine.new watch.new progress.new.calls.items)) }
     ensures one_step { IfOk result (λ next. IfSome next (λ _. length progress.new.steps.items ≡ length progress.old.steps.items + 1)) }
-    ensures quiet { IfOk result (λ next. IfNone next (AreQuiet (P.first_choice plan.now) engine.new 0 regions)) }
+    ensures quiet { IfOk result (λ next. IfNone next (AreQuiet (P.first_choice plan.now) engine.new 0 board.entry.regions)) }
     ensures same_engine { IfOk result (λ next. IfNone next (engine.new ≡ engine.old)) }
     ensures same_steps { IfOk result (λ next. IfNone next (progress.new.steps.items ≡ progress.old.steps.items)) }
     ensures same_calls { IfOk result (λ next. IfNone next (progress.new.calls.items ≡ progress.old.calls.items)) }
 {
-    let Some(region) = fire_next(engine, &mut watch.awake, regions, place) else {
+    let Some(region) = fire_next(engine, &mut watch.awake, board.regions, place) else {
         return Ok(None);
     };
     let answers = keep_step(alloc, engine, watch, plan, &mut progress.steps)?;
@@ -79,10 +79,9 @@ fn run_on<P: Stepper>(
     alloc: Global,
     board: Board<'_>,
     plan: &P,
-    regions: u32,
 ) -> Result<Ending, AllocError>
     requires set { IsSet board.net.now board.texts.now board.scripts.now engine.old.fabric (firings_of board.tables.now) (P.allows plan.now) (P.first_choice plan.now) (P.may_step plan.now) (P.has_step plan.now) }
-    requires regions { regions ≡ engine.old.fabric.regions }
+    requires regions { board.regions ≡ engine.old.fabric.regions }
     requires chooser { engine.old.decider.now ≡ plan.now }
     requires some { 1 ≤ board.limit }
     requires few { board.limit ≤ 2 ^ 63 }
@@ -97,7 +96,7 @@ fn run_on<P: Stepper>(
         if all_answered(board.scripts, &progress.calls, &mut waiting) {
             return Ok(Ending::Done);
         }
-        match turn(engine, watch, progress, alloc, board, plan, regions, place)? {
+        match turn(engine, watch, progress, alloc, board, plan, place)? {
             Some(next) => place = next,
             None => return Ok(Ending::Stuck),
         }
@@ -120,11 +119,11 @@ pub(crate) fn run<P: Stepper>(
     requires set { IsSet board.net.now board.texts.now board.scripts.now fabric (firings_of board.tables.now) (P.allows plan.now) (P.first_choice plan.now) (P.may_step plan.now) (P.has_step plan.now) }
     requires lawful { IsLawfulFabric fabric }
     requires fits { Fits fabric (P.allows plan.now) }
+    requires regions { board.regions ≡ fabric.regions }
     requires some { 1 ≤ board.limit }
     requires few { board.limit ≤ 2 ^ 63 }
     ensures plain { IfOk result (IsPlainReport board.entry.net.now board.entry.texts.now board.entry.scripts.now board.entry.limit) }
 {
-    let regions = fabric.regions;
     let mut watch = Watch::new(alloc, &fabric)?;
     let mut engine = PlainEngine::start(alloc, fabric, plan)?;
     post_first(&mut engine, &mut watch, board.scripts);
@@ -132,15 +131,7 @@ pub(crate) fn run<P: Stepper>(
         steps: Vec::new(alloc),
         calls: no_calls(alloc, board.scripts)?,
     };
-    let ending = run_on(
-        &mut engine,
-        &mut watch,
-        &mut progress,
-        alloc,
-        board,
-        plan,
-        regions,
-    )?;
+    let ending = run_on(&mut engine, &mut watch, &mut progress, alloc, board, plan)?;
     let Progress { steps, calls } = progress;
     Ok(Report {
         steps: Items::from_vec(steps),

@@ -53,6 +53,7 @@ pub fn session_by<P: Stepper>(
         texts,
         scripts,
         tables: prepared.tables.as_slice(),
+        regions: fabric.regions,
         limit,
     };
     run(alloc, board, fabric, plan)

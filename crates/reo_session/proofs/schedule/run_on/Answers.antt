@@ -36,7 +36,7 @@ returns-in-None g c =
     let same_steps = rw c.in-None.is at c.in_ok-next.ensures.same_steps in
     let same_calls = rw c.in-None.is at c.in_ok-next.ensures.same_calls in
     let below : length p.steps.items < b.limit = subst (λ n. n < b.limit) (sym c.loop-turn.invariant.counted) c.loop-turn-test.true in
-    let quiet_before = subst (λ n. AreQuiet (g.P.Decider.first_choice c.args.plan.now) c.loop-turn.engine 0 n) c.requires.regions (subst (λ (x : EngineState (Bor g.row.P.Denot)). AreQuiet (g.P.Decider.first_choice c.args.plan.now) x 0 c.args.regions) same_engine quiet) in
+    let quiet_before = subst (λ n. AreQuiet (g.P.Decider.first_choice c.args.plan.now) c.loop-turn.engine 0 n) c.requires.regions (subst (λ (x : EngineState (Bor g.row.P.Denot)). AreQuiet (g.P.Decider.first_choice c.args.plan.now) x 0 c.args.board.regions) same_engine quiet) in
     let stuck = reports_stuck b.net.now b.texts.now b.scripts.now e.fabric (firings_of b.tables.now) b.limit _ _ _ _ c.requires.set e.decider c.requires.some c.loop-turn.engine p.steps.items p.calls.items c.loop-turn.place c.loop-turn.invariant.running
     (ap (same_lengths b.scripts.now) (sym c.deref.ensures.value) ∙ sym c.if-all_answered.ensures) below quiet_before in
     record {
