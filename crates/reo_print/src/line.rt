@@ -1,4 +1,5 @@
 //! Lines of the circuit and of scripts.
+ghost use Rattle.std.specs.Prelude.{codes};
 ghost use Rattle.reo_document.specs.declared.line.Line.TheVariants.{Channel as AnyChannel};
 ghost use Rattle.reo_print.specs.Buffer.{Adds};
 ghost use Rattle.reo_print.specs.Front.{AreFronts};
@@ -93,6 +94,13 @@ pub(crate) fn push_line(
     }
 }
 
+fn end_line(buffer: &mut Vec<u8>) -> Result<(), AllocError>
+    ensures { Adds buffer.old buffer.new result (codes "\n") }
+{
+    buffer.push(b'\n')?;
+    Ok(())
+}
+
 pub(crate) fn push_operation(
     buffer: &mut Vec<u8>,
     fronts: &Fronts,
@@ -108,7 +116,7 @@ pub(crate) fn push_operation(
         Op::Put(port, value) => {
             push_put(buffer, fronts, nodes, ports, port as usize)?;
             push_value(buffer, texts, value)?;
-            push_bytes(buffer, b"\n")
+            end_line(buffer)
         }
         Op::Get(port) => push_get(buffer, fronts, nodes, ports, port as usize),
     }
