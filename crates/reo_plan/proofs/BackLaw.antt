@@ -1,13 +1,13 @@
 -- The reading that shows what an entry was made from allows the entry, so its data are those of the entry's step.
-use Rattle.std.proofs.Common.{◌≡◌, ℕ, zero, suc, ◌+◌, ◌<◌, ◌≤◌, ⊎_elim, List, [], ◌∷◌, ◌++◌, length, map, slice_get, get_or, Option, Some, None, Bool, true, false, cond, nat_eq, refl, sym, ap, ◌∙◌, subst, arith}
+use Rattle.std.proofs.Common.{◌≡◌, ℕ, zero, suc, ◌+◌, ◌<◌, ◌≤◌, ⊎_elim, List, [], ◌∷◌, ◌++◌, length, map, slice_get, get_or, Option, Some, None, Bool, true, false, cond, nat_eq, IfSome, refl, sym, ap, ◌∙◌, subst, arith}
 use Rattle.std.specs.List.{cons_option}
 use Rattle.std.specs.List.Sorted.{IsStrictlyIncreasing}
-use Rattle.std.specs.Option.{option_map}
+use Rattle.std.specs.Option.{option_map, option_and_then}
 use Rattle.std.proofs.lemmas.Bool.{eq-eqb}
 use Rattle.std.proofs.lemmas.Bool.Decides.{eqb_tells}
 use Rattle.std.proofs.lemmas.Option.{same_Some, none-some, slice_get-get_or}
 use Rattle.reo_value.specs.declared.value.Value.{Value}
-use Rattle.reo_value.specs.Code.{code_of}
+use Rattle.reo_value.specs.Code.{code_of, IsValue}
 use Rattle.reo_net.specs.declared.circuit.RawCircuit.{RawCircuit}
 use Rattle.reo_net.specs.Names.{end_a, end_b}
 use Rattle.reo_net.specs.Steps.{datum}
@@ -20,7 +20,9 @@ use Rattle.reo_fabric.proofs.PlaceLemmas.{at_first, at_later, at_place_holds}
 use Rattle.reo_fabric.proofs.CodeLemmas.{code_is_not_zero}
 use Rattle.reo_flow.specs.Places.{value_at_port, buffers}
 use Rattle.reo_flow.specs.Allows.{Table, AreTables, IsRead, Allows}
-use Rattle.reo_flow.specs.Flow.{sources_of}
+use Rattle.reo_flow.specs.Tests.{decoded}
+use Rattle.reo_flow.specs.Flow.{sources_of, offered_value}
+use Rattle.reo_flow.proofs.TestLemmas.{decoded_of}
 use Rattle.reo_flow.proofs.PlacesLemmas.{rises_with}
 use Rattle.reo_flow.proofs.StepLaw.{tabled_firing}
 use Rattle.reo_flow.proofs.OnceLaw.{rises_strictly}
@@ -89,6 +91,43 @@ named_pairs f [] each = refl
 named_pairs f (p ∷ pairs) each =
     ap (λ o. cons_option (option_map (λ v. (p.0, v)) o) (named_data f (map (λ (q : ℕ × Value). q.0) pairs))) (each 0 p refl) ∙ ap (λ l. p ∷ l) (named_pairs f pairs (λ k q found. each (suc k) q found))
 
+-- the words of ports
+pub ports_back : (entry : Entry) (port : ℕ) → port_words (reading_back entry) port ≡ at_place {A = ℕ × ℕ} (map put_words entry.puts ++ map get_words entry.gets) port
+ports_back entry port = ap (λ l. at_place {A = ℕ × ℕ} l port) (both entry.puts entry.gets)
+  where
+    gone : (gets : List (ℕ × Value)) → map port_word (offers_without gets) ≡ map get_words gets
+    gone [] = refl
+    gone (p ∷ gets) = ap (λ l. get_words p ∷ l) (gone gets)
+
+    both : (puts gets : List (ℕ × Value)) → map port_word (offers_with puts ++ offers_without gets) ≡ map put_words puts ++ map get_words gets
+    both [] gets = gone gets
+    both (p ∷ puts) gets = ap (λ l. put_words p ∷ l) (both puts gets)
+
+-- what the reading shows of cells and ports is what the entry takes and puts
+no_word : (o : Option Value) → option_and_then decoded (option_map (λ v. 0) o) ≡ None
+no_word None = refl
+no_word (Some v) = refl
+
+no_offer : (o : Option Value) → option_and_then offered_value (option_map get_word o) ≡ None
+no_offer None = refl
+no_offer (Some v) = refl
+
+pub cell_back : (entry : Entry) (cell : ℕ) (o : Option Value) → o ≡ at_place entry.takes cell → IfSome o IsValue → o ≡ (sources_of (reading_back entry)).cell cell
+cell_back entry cell None at is =
+    sym (ap (option_and_then decoded) (place_past (words_with entry.takes) (words_without entry.fills) cell (place_mapped code_of entry.takes cell ∙ ap (option_map code_of) (sym at)) ∙ place_mapped (λ v. 0) entry.fills cell)
+    ∙ no_word (at_place entry.fills cell))
+cell_back entry cell (Some v) at is =
+    sym (ap (option_and_then decoded) (place_on (words_with entry.takes) (words_without entry.fills) cell (code_of v) (place_mapped code_of entry.takes cell ∙ ap (option_map code_of) (sym at)))
+    ∙ decoded_of v is (code_of v) refl)
+
+pub port_back : (entry : Entry) (port : ℕ) (o : Option Value) → o ≡ at_place entry.puts port → IfSome o IsValue → o ≡ (sources_of (reading_back entry)).port port
+port_back entry port None at is =
+    sym (ap (option_and_then offered_value) (ports_back entry port ∙ place_past (map put_words entry.puts) (map get_words entry.gets) port (place_mapped put_word entry.puts port ∙ ap (option_map put_word) (sym at)) ∙ place_mapped get_word entry.gets port)
+    ∙ no_offer (at_place entry.gets port))
+port_back entry port (Some v) at is =
+    sym (ap (option_and_then offered_value) (ports_back entry port ∙ place_on (map put_words entry.puts) (map get_words entry.gets) port (1, code_of v) (place_mapped put_word entry.puts port ∙ ap (option_map put_word) (sym at)))
+    ∙ decoded_of v is (code_of v) refl)
+
 module _ (c : RawCircuit) (checked : IsChecked c) (texts : List (List ℕ)) (tables : List Table) (are : AreTables c tables) (region : ℕ) (reading : Reading) (entry : Entry) (allowed : Allows c texts tables region reading entry) where
   takes_rise : RisesFrom 0 entry.takes
   takes_rise = subst (λ (e : Entry). RisesFrom 0 e.takes) (sym allowed.is_step.stands) (rises_with (λ cell k. datum allowed.step (end_b c k)) 0 (buffers c))
@@ -110,17 +149,6 @@ module _ (c : RawCircuit) (checked : IsChecked c) (texts : List (List ℕ)) (tab
   not_taken p empty (Some v) is =
       absurd (code_is_not_zero v (same_Some 0 (code_of v) (sym empty ∙ at_place_holds (λ q. at_place reading.cells q.0 ≡ Some (code_of q.1)) entry.takes p.0 v allowed.read.takes is)))
 
-  ports_back : (port : ℕ) → port_words (reading_back entry) port ≡ at_place {A = ℕ × ℕ} (map put_words entry.puts ++ map get_words entry.gets) port
-  ports_back port = ap (λ l. at_place {A = ℕ × ℕ} l port) (both entry.puts entry.gets)
-    where
-      gone : (gets : List (ℕ × Value)) → map port_word (offers_without gets) ≡ map get_words gets
-      gone [] = refl
-      gone (p ∷ gets) = ap (λ l. get_words p ∷ l) (gone gets)
-
-      both : (puts gets : List (ℕ × Value)) → map port_word (offers_with puts ++ offers_without gets) ≡ map put_words puts ++ map get_words gets
-      both [] gets = gone gets
-      both (p ∷ puts) gets = ap (λ l. put_words p ∷ l) (both puts gets)
-
   read_back : IsRead (reading_back entry) entry
   read_back = record {
     takes = λ k d within.
@@ -132,7 +160,7 @@ module _ (c : RawCircuit) (checked : IsChecked c) (texts : List (List ℕ)) (tab
         ∙ place_mapped (λ v. 0) entry.fills p.0 ∙ ap (option_map (λ v. 0)) (own_place 0 entry.fills fills_rise k p (at_of entry.fills k d within)).1;
     puts = λ k d within.
         let p = get_or entry.puts k d in
-        ports_back p.0 ∙ place_on (map put_words entry.puts) (map get_words entry.gets) p.0 (1, code_of p.1)
+        ports_back entry p.0 ∙ place_on (map put_words entry.puts) (map get_words entry.gets) p.0 (1, code_of p.1)
         (place_mapped put_word entry.puts p.0 ∙ ap (option_map put_word) (own_place 0 entry.puts puts_rise k p (at_of entry.puts k d within)).1);
     gets = λ k d within. got (get_or entry.gets k d) (own_place 0 entry.gets gets_rise k (get_or entry.gets k d) (at_of entry.gets k d within)).1 (at_place entry.puts (get_or entry.gets k d).0) refl;
   }
@@ -140,12 +168,12 @@ module _ (c : RawCircuit) (checked : IsChecked c) (texts : List (List ℕ)) (tab
       got : (p : ℕ × Value) → at_place entry.gets p.0 ≡ Some p.1 → (o : Option Value) → at_place entry.puts p.0 ≡ o → (word : ℕ) × (port_words (reading_back entry) p.0 ≡ Some (1, word))
       got p at (Some v) is = (
         code_of v,
-        ports_back p.0 ∙ place_on (map put_words entry.puts) (map get_words entry.gets) p.0 (1, code_of v)
+        ports_back entry p.0 ∙ place_on (map put_words entry.puts) (map get_words entry.gets) p.0 (1, code_of v)
             (place_mapped put_word entry.puts p.0 ∙ ap (option_map put_word) is),
       )
       got p at None is = (
         0,
-        ports_back p.0 ∙ place_past (map put_words entry.puts) (map get_words entry.gets) p.0
+        ports_back entry p.0 ∙ place_past (map put_words entry.puts) (map get_words entry.gets) p.0
             (place_mapped put_word entry.puts p.0 ∙ ap (option_map put_word) is)
             ∙ place_mapped get_word entry.gets p.0 ∙ ap (option_map get_word) at,
       )

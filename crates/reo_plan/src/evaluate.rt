@@ -1,71 +1,18 @@
 //! What a reading says of slots and facts.
 ghost use Rattle.std.specs.Prelude.{◌≡◌, map, if◌then◌else◌, not, false};
 ghost use Rattle.std.specs.Option.{option_and_then, option_map_or};
-ghost use Rattle.reo_value.specs.Code.{IsValue};
-ghost use Rattle.reo_fabric.specs.Entry.{at_place};
-ghost use Rattle.reo_flow.specs.Tests.{is_met, yielded, decoded};
-ghost use Rattle.reo_flow.specs.Flow.{sources_of, offered_value, is_offered, is_empty, image_of_kind, image_at, met_by_kind, met_at, flow, is_so};
+ghost use Rattle.reo_flow.specs.Tests.{is_met, yielded};
+ghost use Rattle.reo_flow.specs.Flow.{sources_of, is_offered, is_empty, image_of_kind, image_at, met_by_kind, met_at, flow, is_so};
 ghost use Rattle.reo_plan.specs.inside.Slots.{slot_at, slot_value};
 
 use crate::slots::giver_at;
+use crate::sources::{Sources, cell_word, known, port_words};
 use reo_fabric::Reading;
 use reo_flow::{Fact, Giver};
 use reo_guard::{Fun, Guard, apply, holds};
 use reo_net::{Kind, Net};
-use reo_value::{Lexicon, Value, value_of, word_of};
+use reo_value::{Lexicon, Value};
 use sqlite_items::at;
-
-fn decoded(word: u64) -> Option<Value>
-    ensures { result ≡ decoded word }
-{
-    value_of(word)
-}
-
-fn cell_word(cells: &[(u32, u64)], cell: u32) -> Option<u64>
-    ensures { result ≡ at_place cells.now cell }
-{
-    for words in cells {
-        if words.0 == cell {
-            return Some(words.1);
-        }
-    }
-    None
-}
-
-fn port_words(ports: &[(u32, u64, u64)], port: u32) -> Option<(u64, u64)>
-    ensures { result ≡ at_place (map (λ p. (p.0, (p.1, p.2))) ports.now) port }
-{
-    for words in ports {
-        if words.0 == port {
-            return Some((words.1, words.2));
-        }
-    }
-    None
-}
-
-fn value_in_cell(reading: &Reading, cell: u32) -> Option<Value>
-    ensures { result ≡ (sources_of reading.now).cell cell }
-{
-    match cell_word(reading.cells.as_slice(), cell) {
-        Some(word) => decoded(word),
-        None => None,
-    }
-}
-
-fn offered_value(words: (u64, u64)) -> Option<Value>
-    ensures { result ≡ offered_value words }
-{
-    if words.0 == 1 { decoded(words.1) } else { None }
-}
-
-fn value_at_port(reading: &Reading, port: u32) -> Option<Value>
-    ensures { result ≡ (sources_of reading.now).port port }
-{
-    match port_words(reading.ports.as_slice(), port) {
-        Some(words) => offered_value(words),
-        None => None,
-    }
-}
 
 fn is_offered(reading: &Reading, port: u32) -> bool
     ensures { result ≡ is_offered reading.now port }
@@ -89,15 +36,6 @@ fn is_met(guard: &Guard, datum: Value, texts: &Lexicon) -> bool
     ensures { result ≡ is_met texts.now guard.now datum }
 {
     holds(guard, datum, texts)
-}
-
-/// The value, whose code tells that it is one.
-fn known(value: &Value) -> Value
-    ensures same { result ≡ value.now }
-    ensures value { IsValue value.now }
-{
-    let _code = word_of(*value);
-    *value
 }
 
 fn yielded(fun: &Fun, datum: Value, texts: &Lexicon) -> Option<Value>
@@ -163,42 +101,46 @@ fn image_of(net: &Net, texts: &Lexicon, number: u32, datum: Option<Value>) -> Op
 }
 
 /// What flows to a slot through so many givers.
-fn flow(
+fn flow<S: Sources>(
     net: &Net,
     texts: &Lexicon,
-    reading: &Reading,
+    sources: &S,
     slots: &[Giver],
     fuel: u64,
     slot: u32,
 ) -> Option<Value>
-    ensures { result ≡ flow net.now texts.now (sources_of reading.now) (slot_at slots.now) fuel slot }
+    ensures { result ≡ flow net.now texts.now (S.sources sources.now) (slot_at slots.now) fuel slot }
 {
     if fuel == 0 {
         return None;
     }
     match giver_at(slots, slot) {
         Giver::Unfed => None,
-        Giver::Cell(cell) => value_in_cell(reading, cell),
-        Giver::Port(port) => value_at_port(reading, port),
-        Giver::Same(other) => flow(net, texts, reading, slots, fuel - 1, other),
+        Giver::Cell(cell) => sources.in_cell(cell),
+        Giver::Port(port) => sources.at_port(port),
+        Giver::Same(other) => flow(net, texts, sources, slots, fuel - 1, other),
         Giver::Image(channel, other) => {
-            let datum = flow(net, texts, reading, slots, fuel - 1, other);
+            let datum = flow(net, texts, sources, slots, fuel - 1, other);
             image_of(net, texts, channel, datum)
         }
     }
 }
 
-/// What is in a slot.
-pub(crate) fn slot_value(
+/// What is in a slot. Most slots have what comes out of a cell or is offered at a port.
+pub(crate) fn slot_value<S: Sources>(
     net: &Net,
     texts: &Lexicon,
-    reading: &Reading,
+    sources: &S,
     slots: &[Giver],
     slot: u32,
 ) -> Option<Value>
-    ensures { result ≡ slot_value net.now texts.now (sources_of reading.now) slots.now slot }
+    ensures { result ≡ slot_value net.now texts.now (S.sources sources.now) slots.now slot }
 {
-    flow(net, texts, reading, slots, u64::from(slot) + 1, slot)
+    match giver_at(slots, slot) {
+        Giver::Cell(cell) => sources.in_cell(cell),
+        Giver::Port(port) => sources.at_port(port),
+        _ => flow(net, texts, sources, slots, u64::from(slot) + 1, slot),
+    }
 }
 
 fn is_met_in(net: &Net, texts: &Lexicon, number: u32, datum: Option<Value>, wanted: bool) -> bool

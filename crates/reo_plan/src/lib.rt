@@ -14,6 +14,7 @@ mod places;
 mod plans;
 mod row;
 mod slots;
+mod sources;
 mod wiring;
 mod write;
 

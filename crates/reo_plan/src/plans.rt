@@ -1,5 +1,5 @@
 //! Plans: what a circuit's firings ask and do, for whoever chooses by readings.
-ghost use Rattle.std.specs.Prelude.{◌≡◌, ℕ, ◌≤◌, length, map, position, IfOk, Option};
+ghost use Rattle.std.specs.Prelude.{◌≡◌, ℕ, ◌≤◌, length, map, position, IfOk, OnOk, Option};
 ghost use Rattle.std.specs.Option.{option_map};
 ghost use Rattle.reo_cut.specs.Cut.{IsCut};
 ghost use Rattle.reo_fabric.specs.declared.fabric.Fabric.{Fabric as AnyFabric};
@@ -12,7 +12,7 @@ ghost use Rattle.reo_plan.specs.Plan.{PlanState, firings_in, plan_of};
 ghost use Rattle.reo_plan.specs.inside.Plans.{fits};
 
 use crate::asks::{Shared, shared_in};
-use crate::back::{pairs_of, reading_back};
+use crate::back::pairs_into;
 use crate::compiler::plans_of;
 use crate::first::first_row;
 use crate::givers::cell_numbers;
@@ -20,9 +20,9 @@ use crate::row::Row;
 use crate::write::write_row;
 use reo_cut::Cut;
 use reo_fabric::{Choice, Decider, EntryRef, Reading, Room};
-use reo_net::{Net, Step};
+use reo_net::Net;
 use reo_product::RegionTable;
-use reo_value::Lexicon;
+use reo_value::{Lexicon, Value};
 use sqlite_items::{Items, at};
 use std::alloc::{AllocError, Global};
 use std::marker::Model;
@@ -104,18 +104,21 @@ impl<'a> Decider for Plan<'a> {
 }
 
 impl<'a> Plan<'a> {
-    /// The step of an entry that some reading allowed.
-    pub fn step_of(&self, alloc: Global, entry: &EntryRef<'_>) -> Result<Step, AllocError>
+    /// Makes a list the pairs of the step of an entry that some reading allowed.
+    pub fn step_into(
+        &self,
+        entry: &EntryRef<'_>,
+        pairs: &mut Vec<(u32, Value)>,
+    ) -> Result<(), AllocError>
         requires allowed { (reading : AnyReading) × Allows self.now.circuit self.now.texts self.now.tables entry.now.region reading entry.now }
-        ensures step { IfOk result (λ step. (reading : AnyReading) (allowed : Allows self.now.circuit self.now.texts self.now.tables entry.now.region reading entry.now) → step ≡ allowed.step) }
+        ensures step { OnOk result ((reading : AnyReading) (allowed : Allows self.now.circuit self.now.texts self.now.tables entry.now.region reading entry.now) → pairs.new.items ≡ allowed.step.pairs) }
     {
         let _nodes = self.net.nodes();
-        let reading = reading_back(alloc, entry)?;
         let rows = self.plans.as_slice()[entry.region() as usize].as_slice();
         let row = &rows[entry.choice() as usize];
         let slots = row.slots.as_slice();
         let named = row.named.as_slice();
-        let pairs = pairs_of(alloc, self.net, self.texts, &reading, slots, named)?;
-        Ok(Step { pairs })
+        pairs_into(pairs, self.net, self.texts, entry, slots, named)?;
+        Ok(())
     }
 }

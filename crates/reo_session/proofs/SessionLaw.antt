@@ -35,11 +35,11 @@ use Rattle.reo_schedule.specs.Plain.{IsPlainReport}
 use Rattle.reo_schedule.specs.Turn.{steps_of}
 use Rattle.reo_schedule.proofs.RunLaw.{begins, ends_done, ends_stuck, ends_at_limit}
 use Rattle.reo_session.specs.Running.{IsRunning, IsPosting, same_lengths}
-use Rattle.reo_session.specs.Session.{IsSet}
+use Rattle.reo_session.specs.Session.{IsSet, Reports}
 use Rattle.reo_session.specs.Turn.{AreQuiet}
 use Rattle.reo_session.proofs.PostLemmas.{all_first}
 use Rattle.reo_session.proofs.ProgressLemmas.{all_answered, not_all}
-use Rattle.reo_session.proofs.TurnLemmas.{quiet_at, counted_steps}
+use Rattle.reo_session.proofs.TurnLemmas.{quiet_at}
 
 -- the first values of the cells are the initial state
 map_map : {A B C : Type 0} (g : B → C) (f : A → B) (xs : List A) → map g (map f xs) ≡ map (λ x. g (f x)) xs
@@ -104,26 +104,26 @@ all_idle (p ∷ ports) zero = refl
 all_idle (p ∷ ports) (suc port) = all_idle ports port
 
 -- the fabric and the decider are the engine's own
-pub at_engine : {D : Type 0} (c : RawCircuit) (texts : List (List ℕ)) (scripts : List (List Op)) (fabric : Fabric) (tables : List Table) (limit : ℕ) (decider : D) (engine : EngineState D) (steps : List Step) (calls : List (List Called)) (place : ℕ)
-    → IsRunning c texts scripts fabric tables limit decider engine steps calls place → IsRunning c texts scripts engine.fabric tables limit engine.decider engine steps calls place
-at_engine c texts scripts fabric tables limit decider engine steps calls place running =
-    subst (λ d. IsRunning c texts scripts engine.fabric tables limit d engine steps calls place) (sym running.decider_is)
-    (subst (λ f. IsRunning c texts scripts f tables limit decider engine steps calls place) (sym running.fabric_is) running)
+pub at_engine : {D : Type 0} (c : RawCircuit) (texts : List (List ℕ)) (scripts : List (List Op)) (fabric : Fabric) (tables : List Table) (limit : ℕ) (decider : D) (engine : EngineState D) (has_kept : List Step → Type 0) (calls : List (List Called)) (place : ℕ)
+    → IsRunning c texts scripts fabric tables limit decider engine has_kept calls place → IsRunning c texts scripts engine.fabric tables limit engine.decider engine has_kept calls place
+at_engine c texts scripts fabric tables limit decider engine has_kept calls place running =
+    subst (λ d. IsRunning c texts scripts engine.fabric tables limit d engine has_kept calls place) (sym running.decider_is)
+    (subst (λ f. IsRunning c texts scripts f tables limit decider engine has_kept calls place) (sym running.fabric_is) running)
 
-pub from_engine : {D : Type 0} (c : RawCircuit) (texts : List (List ℕ)) (scripts : List (List Op)) (fabric : Fabric) (tables : List Table) (limit : ℕ) (decider : D) (before engine : EngineState D) (steps : List Step) (calls : List (List Called)) (place : ℕ)
-    → before.fabric ≡ fabric → before.decider ≡ decider → IsRunning c texts scripts before.fabric tables limit before.decider engine steps calls place → IsRunning c texts scripts fabric tables limit decider engine steps calls place
-from_engine c texts scripts fabric tables limit decider before engine steps calls place fabrics deciders running =
-    subst (λ d. IsRunning c texts scripts fabric tables limit d engine steps calls place) deciders
-    (subst (λ f. IsRunning c texts scripts f tables limit before.decider engine steps calls place) fabrics running)
+pub from_engine : {D : Type 0} (c : RawCircuit) (texts : List (List ℕ)) (scripts : List (List Op)) (fabric : Fabric) (tables : List Table) (limit : ℕ) (decider : D) (before engine : EngineState D) (has_kept : List Step → Type 0) (calls : List (List Called)) (place : ℕ)
+    → before.fabric ≡ fabric → before.decider ≡ decider → IsRunning c texts scripts before.fabric tables limit before.decider engine has_kept calls place → IsRunning c texts scripts fabric tables limit decider engine has_kept calls place
+from_engine c texts scripts fabric tables limit decider before engine has_kept calls place fabrics deciders running =
+    subst (λ d. IsRunning c texts scripts fabric tables limit d engine has_kept calls place) deciders
+    (subst (λ f. IsRunning c texts scripts f tables limit before.decider engine has_kept calls place) fabrics running)
 
 module _ (c : RawCircuit) (texts : List (List ℕ)) (scripts : List (List Op)) (fabric : Fabric) (tables : List Table) (limit : ℕ) (allows : ℕ → Reading → Entry → Type 0) (first_choice : ℕ → Reading → Option ℕ) (may_step : Entry → Type 0) (has_step : Entry → Step → Type 0)
     (set : IsSet c texts scripts fabric tables allows first_choice may_step has_step) {D : Type 0} (decider : D) where
-  pub starts : (ports : List PortState) → IsPosting scripts (length scripts) (length fabric.ports) ports
-      → IsRunning c texts scripts fabric tables limit decider (record (started fabric decider) { ports = ports }) [] (map (λ script. []) scripts) 0
-  starts ports posting = record {
+  pub starts : (has_kept : List Step → Type 0) → has_kept [] → (ports : List PortState) → IsPosting scripts (length scripts) (length fabric.ports) ports
+      → IsRunning c texts scripts fabric tables limit decider (record (started fabric decider) { ports = ports }) has_kept (map (λ script. []) scripts) 0
+  starts has_kept none ports posting = record {
     turns = [];
     under_way = begins c set.checked texts scripts set.fit set.put_values fabric tables set.board limit set.brings;
-    steps_are = refl;
+    kept = none;
     calls_are = refl;
     place_is = refl;
     within = omega arith;
@@ -135,12 +135,14 @@ module _ (c : RawCircuit) (texts : List (List ℕ)) (scripts : List (List Op)) (
     posted = all_first scripts (length fabric.ports) ports posting;
   }
 
-  module _ (some : 1 ≤ limit) (engine : EngineState D) (steps : List Step) (calls : List (List Called)) (place : ℕ) (running : IsRunning c texts scripts fabric tables limit decider engine steps calls place) where
+  module _ (some : 1 ≤ limit) (engine : EngineState D) (has_kept : List Step → Type 0) (calls : List (List Called)) (place : ℕ) (running : IsRunning c texts scripts fabric tables limit decider engine has_kept calls place) where
     reported : (ending : Ending) → IsPlainReport c texts scripts limit (record { steps = steps_of running.turns; calls = calls_of scripts (steps_of running.turns); ending = ending })
-        → IsPlainReport c texts scripts limit (record { steps = steps; calls = calls; ending = ending })
-    reported ending plain =
-        subst (λ (ss : List Step). IsPlainReport c texts scripts limit (record { steps = ss; calls = calls; ending = ending })) (sym running.steps_are)
-        (subst (λ (cs : List (List Called)). IsPlainReport c texts scripts limit (record { steps = steps_of running.turns; calls = cs; ending = ending })) (sym running.calls_are) plain)
+        → Reports c texts scripts limit has_kept calls ending
+    reported ending plain = record {
+      steps = steps_of running.turns;
+      kept = running.kept;
+      plain = subst (λ (cs : List (List Called)). IsPlainReport c texts scripts limit (record { steps = steps_of running.turns; calls = cs; ending = ending })) (sym running.calls_are) plain;
+    }
 
     count : length calls ≡ length scripts
     count = ap length running.calls_are ∙ running.under_way.lawful.components
@@ -148,17 +150,15 @@ module _ (c : RawCircuit) (texts : List (List ℕ)) (scripts : List (List Op)) (
     left_of : same_lengths scripts calls ≡ false → AllAnswered scripts (calls_of scripts (steps_of running.turns)) → ⊥
     left_of differ all = not_all scripts calls differ (subst (AllAnswered scripts) (sym running.calls_are) all)
 
-    pub reports_done : same_lengths scripts calls ≡ true → IsPlainReport c texts scripts limit (record { steps = steps; calls = calls; ending = Done })
+    pub reports_done : same_lengths scripts calls ≡ true → Reports c texts scripts limit has_kept calls Done
     reports_done same =
         reported Done (ends_done c set.checked texts scripts set.fit set.put_values fabric tables set.board limit some running.turns running.under_way (subst (AllAnswered scripts) running.calls_are (all_answered scripts calls count same)))
 
-    pub reports_limit : same_lengths scripts calls ≡ false → limit ≤ length steps → IsPlainReport c texts scripts limit (record { steps = steps; calls = calls; ending = Limit })
+    pub reports_limit : same_lengths scripts calls ≡ false → limit ≤ engine.count → Reports c texts scripts limit has_kept calls Limit
     reports_limit differ reached =
-        let long = counted_steps c set.checked texts scripts set.fit set.put_values fabric tables set.board limit decider allows first_choice may_step has_step set.by_tables engine steps calls place running in
-        reported Limit (ends_at_limit c set.checked texts scripts set.fit set.put_values fabric tables set.board limit some running.turns running.under_way (left_of differ) (omega (arith, reached, long)))
+        reported Limit (ends_at_limit c set.checked texts scripts set.fit set.put_values fabric tables set.board limit some running.turns running.under_way (left_of differ) (omega (arith, reached, running.counted)))
 
-    pub reports_stuck : same_lengths scripts calls ≡ false → length steps < limit → AreQuiet first_choice engine 0 fabric.regions → IsPlainReport c texts scripts limit (record { steps = steps; calls = calls; ending = Stuck })
+    pub reports_stuck : same_lengths scripts calls ≡ false → engine.count < limit → AreQuiet first_choice engine 0 fabric.regions → Reports c texts scripts limit has_kept calls Stuck
     reports_stuck differ below quiet =
-        let long = counted_steps c set.checked texts scripts set.fit set.put_values fabric tables set.board limit decider allows first_choice may_step has_step set.by_tables engine steps calls place running in
-        reported Stuck (ends_stuck c set.checked texts scripts set.fit set.put_values fabric tables set.board limit some running.turns running.under_way set.brings (left_of differ) (omega (arith, below, long))
-        (λ region in_regions. quiet_at c set.checked texts scripts set.fit set.put_values fabric tables set.board limit decider allows first_choice may_step has_step set.by_tables engine steps calls place running region (quiet region (omega arith) in_regions)))
+        reported Stuck (ends_stuck c set.checked texts scripts set.fit set.put_values fabric tables set.board limit some running.turns running.under_way set.brings (left_of differ) (omega (arith, below, running.counted))
+        (λ region in_regions. quiet_at c set.checked texts scripts set.fit set.put_values fabric tables set.board limit decider allows first_choice may_step has_step set.by_tables engine has_kept calls place running region (quiet region (omega arith) in_regions)))

@@ -149,7 +149,7 @@ same_calls step number answers (script ∷ scripts) (own ∷ calls) each =
 
 module _ (c : RawCircuit) (checked : IsChecked c) (texts : List (List ℕ)) (scripts : List (List Op)) (fit : ScriptsFit c scripts) (put : ScriptsPutValues scripts) (fabric : Fabric) (tables : List Table) (board : IsBoard c fabric tables) (limit : ℕ)
     {D : Type 0} (decider : D) (allows : ℕ → Reading → Entry → Type 0) (first_choice : ℕ → Reading → Option ℕ) (may_step : Entry → Type 0) (has_step : Entry → Step → Type 0) (by_tables : GoesByTables c texts tables allows first_choice may_step has_step)
-    (engine : EngineState D) (steps : List Step) (calls : List (List Called)) (place : ℕ) (running : IsRunning c texts scripts fabric tables limit decider engine steps calls place) where
+    (engine : EngineState D) (has_kept : List Step → Type 0) (calls : List (List Called)) (place : ℕ) (running : IsRunning c texts scripts fabric tables limit decider engine has_kept calls place) where
   abbrev turns : List Turn
   turns = running.turns
 
@@ -165,10 +165,7 @@ module _ (c : RawCircuit) (checked : IsChecked c) (texts : List (List ℕ)) (scr
       subst (λ reading. IsFirstChoice (Allows c texts tables region reading) None) (reading_is region)
       (subst (IsFirstChoice (Allows c texts tables region (engine_reading engine region))) none (by_tables.first region (engine_reading engine region)))
 
-  pub counted_steps : length steps ≡ length turns
-  counted_steps = ap length running.steps_are ∙ length-map turns (λ turn. turn.step)
-
-  module _ (left : AllAnswered scripts calls → ⊥) (few : length steps < limit) (fired : EngineState D) (region : ℕ) (next : FiresNext allows first_choice engine fired place region) (step : Step) (has : has_step next.fires.entry step) where
+  module _ (left : AllAnswered scripts calls → ⊥) (few : engine.count < limit) (fired : EngineState D) (region : ℕ) (next : FiresNext allows first_choice engine fired place region) (step : Step) (has : has_step next.fires.entry step) where
     abbrev entry : Entry
     entry = next.fires.entry
 
@@ -190,7 +187,7 @@ module _ (c : RawCircuit) (checked : IsChecked c) (texts : List (List ℕ)) (scr
     is_next : IsNext c texts scripts fabric tables limit turns turn
     is_next = record {
       left = λ all. left (subst (AllAnswered scripts) (sym running.calls_are) all);
-      few = omega (arith, few, counted_steps);
+      few = omega (arith, few, running.counted);
       region = omega (arith, next.within, regions_are, allowed.of_region);
       allowed = subst (λ r. AllowsTurn c texts tables r (reads c fabric scripts turns r) turn) (sym allowed.of_region) is_turn;
       first = subst (λ r. IsFirstChoice (Allows c texts tables r (reads c fabric scripts turns r)) (Some entry.choice)) (sym allowed.of_region)
@@ -249,13 +246,13 @@ module _ (c : RawCircuit) (checked : IsChecked c) (texts : List (List ℕ)) (scr
         ∙ ap (λ n. calls_with scripts step n calls) running.counted ∙ ap (calls_with scripts step (length turns)) running.calls_are ∙ sym (calls_turn scripts turns turn)
 
     -- a turn was taken
-    pub running_more : (after : EngineState D) (steps_after : List Step) (calls_after : List (List Called)) (place_after : ℕ) → after ≡ record fired { ports = after.ports } → steps_after ≡ steps ++ step ∷ []
+    pub running_more : (after : EngineState D) (has_kept_after : List Step → Type 0) (calls_after : List (List Called)) (place_after : ℕ) → after ≡ record fired { ports = after.ports } → ((steps : List Step) → has_kept steps → has_kept_after (steps ++ step ∷ []))
         → calls_after ≡ collected scripts fired.ports calls → place_after ≡ region + 1 → length after.ports ≡ length fired.ports → ArePosted scripts calls_after after.ports
-        → IsRunning c texts scripts fabric tables limit decider after steps_after calls_after place_after
-    running_more after steps_after calls_after place_after only_ports are_steps are_calls is_place long posted = record {
+        → IsRunning c texts scripts fabric tables limit decider after has_kept_after calls_after place_after
+    running_more after has_kept_after calls_after place_after only_ports keeps are_calls is_place long posted = record {
       turns = turns ++ turn ∷ [];
       under_way = under_way_then;
-      steps_are = are_steps ∙ ap (λ ss. ss ++ step ∷ []) running.steps_are ∙ sym (steps_turn turns turn);
+      kept = subst has_kept_after (sym (steps_turn turns turn)) (keeps (steps_of turns) running.kept);
       calls_are = calls_then calls_after are_calls;
       place_is = is_place ∙ ap (λ r. r + 1) (sym allowed.of_region) ∙ sym (place_turn turns turn);
       within = omega (arith, is_place, next.within, regions_are);

@@ -5,3 +5,4 @@ pub mod Plan
 pub mod Running
 pub mod Session
 pub mod Watch
+pub mod Text

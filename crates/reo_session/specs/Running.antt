@@ -21,10 +21,10 @@ use Rattle.reo_session.specs.Posted.{ArePosted}
 -- what an engine has done, and what was kept of it, are turns of the plain schedule
 pub record IsRunning {D : Type 0} (c : RawCircuit) (texts : List (List ℕ)) (scripts : List (List Op)) (fabric : Fabric)
     (tables : List Table) (limit : ℕ) (decider : D)
-    (engine : EngineState D) (steps : List Step) (calls : List (List Called)) (place : ℕ) : Type 0 where
+    (engine : EngineState D) (has_kept : List Step → Type 0) (calls : List (List Called)) (place : ℕ) : Type 0 where
   pub turns : List Turn
   pub under_way : IsUnderWay c texts scripts fabric tables limit turns
-  pub steps_are : steps ≡ steps_of turns
+  pub kept : has_kept (steps_of turns)
   pub calls_are : calls ≡ calls_of scripts (steps_of turns)
   pub place_is : place ≡ place_of turns
   pub within : place ≤ fabric.regions

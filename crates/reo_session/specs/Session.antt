@@ -14,6 +14,9 @@ use Rattle.reo_flow.specs.Allows.{Table}
 use Rattle.reo_schedule.specs.Board.{IsBoard}
 use Rattle.reo_schedule.specs.UnderWay.{ScriptsPutValues}
 use Rattle.reo_schedule.specs.Values.{BringsValues}
+use Rattle.reo_trace.specs.declared.report.Called.{Called}
+use Rattle.reo_trace.specs.declared.report.Ending.{Ending}
+use Rattle.reo_schedule.specs.Plain.{IsPlainReport}
 use Rattle.reo_session.specs.Plan.{GoesByTables}
 
 -- the firings of each region
@@ -30,3 +33,10 @@ pub record IsSet (c : RawCircuit) (texts : List (List ℕ)) (scripts : List (Lis
   pub put_values : ScriptsPutValues scripts
   pub board : IsBoard c fabric tables
   pub by_tables : GoesByTables c texts tables allows first_choice may_step has_step
+
+-- the steps that were kept are, with these calls and this ending, a report of the plain schedule
+pub record Reports (c : RawCircuit) (texts : List (List ℕ)) (scripts : List (List Op)) (limit : ℕ) (has_kept : List Step → Type 0)
+    (calls : List (List Called)) (ending : Ending) : Type 0 where
+  pub steps : List Step
+  pub kept : has_kept steps
+  pub plain : IsPlainReport c texts scripts limit (record { steps = steps; calls = calls; ending = ending })

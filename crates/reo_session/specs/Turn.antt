@@ -1,5 +1,6 @@
 -- Which regions of an engine fire.
-use Rattle.std.specs.Prelude.{◌≡◌, ℕ, ◌<◌, ◌≤◌, Option, None}
+use Rattle.std.specs.Prelude.{◌≡◌, ℕ, ◌<◌, ◌≤◌, List, [], ◌∷◌, ◌++◌, Option, None}
+use Rattle.reo_net.specs.declared.circuit.Step.{Step}
 use Rattle.reo_fabric.specs.declared.entry.Entry.{Entry}
 use Rattle.reo_fabric.specs.declared.reading.Reading.{Reading}
 use Rattle.reo_fabric.specs.Engine.{EngineState, engine_reading, Fires}
@@ -16,3 +17,9 @@ pub record FiresFirst {D : Type 0} (Allows : ℕ → Reading → Entry → Type 
   pub number : ℕ
   pub fires : Fires Allows first_choice region old new number
   pub earlier : AreQuiet first_choice old from region
+
+-- one more step is kept, and it is such a step
+pub record KeepsOne (has_kept has_kept_after : List Step → Type 0) (IsSuch : Step → Type 0) : Type 0 where
+  pub step : Step
+  pub is_such : IsSuch step
+  pub keeps : (steps : List Step) → has_kept steps → has_kept_after (steps ++ step ∷ [])

@@ -9,7 +9,7 @@ ghost use Rattle.reo_schedule.specs.Offers.{offered_by};
 ghost use Rattle.reo_session.specs.Posted.{ArePosted, IsAnswered, MayCollect, MayPost, ScriptsFitFabric, WithPorts, after_own, calls_by, collected, waiting_own, waiting_with, with_posted};
 ghost use Rattle.reo_session.specs.Watch.{AreAnsweredAt, HasPlacesOf, IsAsleep, IsWatch, KeepsAsleep, Knows, MayTake, TakesAnswers};
 
-use crate::turn::Answers;
+use crate::progress::Last;
 use crate::watch::Watch;
 use reo_fabric::{Decider, PlainEngine};
 use reo_trace::Called;
@@ -135,23 +135,23 @@ fn collect_from<D: Decider + Drop>(
     Ok(())
 }
 
-/// Takes the answers at the places of an entry, and offers the operations that are next then.
+/// Takes the answers at the places of the last entry, and offers the operations that are next then.
 fn collect_both<D: Decider + Drop>(
     engine: &mut PlainEngine<D>,
     watch: &mut Watch,
     calls: &mut [Items<Called>],
     scripts: &[Items<Op>],
-    answers: &Answers,
+    last: &Last,
 ) -> Result<(), AllocError>
     requires may { MayTake scripts.now engine.old watch.old calls.old }
-    requires answered { AreAnsweredAt answers.now.puts answers.now.gets engine.old.ports }
+    requires answered { AreAnsweredAt last.now.puts.items last.now.gets.items engine.old.ports }
     ensures as_many { OnOk result (length calls.new ≡ length calls.old) }
     ensures takes { OnOk result (TakesAnswers scripts.now engine.old watch.old calls.old engine.new watch.new calls.new) }
     ensures calls { OnOk result (calls.new ≡ collected scripts.now engine.old.ports calls.old) }
     ensures posted { OnOk result (ArePosted scripts.now calls.new engine.new.ports) }
 {
-    collect_from(engine, watch, calls, scripts, answers.puts.as_slice())?;
-    collect_from(engine, watch, calls, scripts, answers.gets.as_slice())?;
+    collect_from(engine, watch, calls, scripts, last.puts.as_slice())?;
+    collect_from(engine, watch, calls, scripts, last.gets.as_slice())?;
     Ok(())
 }
 
@@ -161,15 +161,15 @@ pub(crate) fn collect<D: Decider + Drop>(
     watch: &mut Watch,
     calls: &mut Vec<Items<Called>>,
     scripts: &[Items<Op>],
-    answers: &Answers,
+    last: &Last,
 ) -> Result<(), AllocError>
     requires may { MayTake scripts.now engine.old watch.old calls.old.items }
-    requires answered { AreAnsweredAt answers.now.puts answers.now.gets engine.old.ports }
+    requires answered { AreAnsweredAt last.now.puts.items last.now.gets.items engine.old.ports }
     ensures takes { OnOk result (TakesAnswers scripts.now engine.old watch.old calls.old.items engine.new watch.new calls.new.items) }
     ensures calls { OnOk result (calls.new.items ≡ collected scripts.now engine.old.ports calls.old.items) }
     ensures posted { OnOk result (ArePosted scripts.now calls.new.items engine.new.ports) }
 {
-    collect_both(engine, watch, calls, scripts, answers)?;
+    collect_both(engine, watch, calls, scripts, last)?;
     Ok(())
 }
 

@@ -11,5 +11,6 @@ mod turn;
 mod watch;
 
 pub use preparation::{Prepared, SessionRefusal, prepare};
-pub use session::{plain_session, session_by};
+pub use schedule::Ended;
+pub use session::{ReportText, plain_session, plain_text, session_by};
 pub use steps::Stepper;

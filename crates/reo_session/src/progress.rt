@@ -8,17 +8,36 @@ ghost use Rattle.reo_schedule.specs.Values.{BringsValues, HasMappedValues, HasVa
 ghost use Rattle.reo_session.specs.Running.{same_lengths};
 
 use reo_guard::Fun;
-use reo_net::{Channel, Kind, Net, Step};
+use reo_net::{Channel, Kind, Net};
 use reo_trace::Called;
 use reo_value::{Lexicon, Op, Value, word_of};
 use sqlite_items::Items;
 use std::alloc::{AllocError, Global};
 
-/// The steps so far, and the calls of each component that were answered.
+/// The calls of each component that were answered, and what was done last.
 #[derive(Drop)]
 pub(crate) struct Progress {
-    pub steps: Vec<Step>,
     pub calls: Vec<Items<Called>>,
+    pub last: Last,
+}
+
+/// What the last entry did: the pairs of its step, and the places that it put and got at.
+#[derive(Drop)]
+pub(crate) struct Last {
+    pub pairs: Vec<(u32, Value)>,
+    pub puts: Vec<(u32, Value)>,
+    pub gets: Vec<(u32, Value)>,
+}
+
+impl Last {
+    /// Nothing was done yet.
+    pub(crate) fn new(alloc: Global) -> Last {
+        Last {
+            pairs: Vec::new(alloc),
+            puts: Vec::new(alloc),
+            gets: Vec::new(alloc),
+        }
+    }
 }
 
 /// Whether an operation of this component was not answered.

@@ -1,14 +1,14 @@
 //! Who chooses, and knows the steps of what is chosen.
-ghost use Rattle.std.specs.Prelude.{IfOk};
+ghost use Rattle.std.specs.Prelude.{OnOk};
 ghost use Rattle.reo_net.specs.declared.circuit.Step.{Step as AnyStep};
 ghost use Rattle.reo_fabric.specs.declared.entry.Entry.{Entry as AnyEntry};
 
 use reo_fabric::{Decider, EntryRef};
-use reo_net::Step;
 use reo_plan::Plan;
-use std::alloc::{AllocError, Global};
+use reo_value::Value;
+use std::alloc::AllocError;
 
-/// A decider that gives the step of each entry that it allows.
+/// A decider that gives the pairs of the step of each entry that it allows.
 pub trait Stepper: Decider {
     /// The entry is one of which the step is known.
     ghost may_step: { Self → AnyEntry → Type 0 };
@@ -16,10 +16,14 @@ pub trait Stepper: Decider {
     /// The entry has this step.
     ghost has_step: { Self → AnyEntry → AnyStep → Type 0 };
 
-    /// The step of an entry.
-    fn step_of(&self, alloc: Global, entry: &EntryRef<'_>) -> Result<Step, AllocError>
+    /// Makes a list the pairs of an entry's step.
+    fn step_into(
+        &self,
+        entry: &EntryRef<'_>,
+        pairs: &mut Vec<(u32, Value)>,
+    ) -> Result<(), AllocError>
         requires { Self.may_step self.now entry.now }
-        ensures { IfOk result (has_step self.now entry.now) };
+        ensures { OnOk result (has_step self.now entry.now (record { pairs = pairs.new.items })) };
 }
 
 impl<'a> Stepper for Plan<'a> {
@@ -29,7 +33,11 @@ impl<'a> Stepper for Plan<'a> {
 
     ghost has_step = { λ plan. IsStepWherever plan.circuit plan.texts plan.tables };
 
-    fn step_of(&self, alloc: Global, entry: &EntryRef<'_>) -> Result<Step, AllocError> {
-        Plan::step_of(self, alloc, entry)
+    fn step_into(
+        &self,
+        entry: &EntryRef<'_>,
+        pairs: &mut Vec<(u32, Value)>,
+    ) -> Result<(), AllocError> {
+        Plan::step_into(self, entry, pairs)
     }
 }

@@ -1,19 +1,18 @@
 //! The next turn of the plain schedule.
-ghost use Rattle.std.specs.Prelude.{◌≡◌, ℕ, ◌<◌, ◌≤◌, ◌^◌, ◌∷◌, [], ◌++◌, length, None, Some, IfSome, IfNone, IfOk, OnOk, true, false};
-ghost use Rattle.reo_net.specs.declared.circuit.Step.{Step as AnyStep};
+ghost use Rattle.std.specs.Prelude.{◌≡◌, ℕ, ◌<◌, ◌≤◌, ◌^◌, length, None, Some, IfSome, IfNone, OnOk, true, false};
 ghost use Rattle.reo_fabric.specs.declared.entry.Entry.{Entry as AnyEntry};
 ghost use Rattle.reo_fabric.specs.Engine.{Fires, engine_reading};
-ghost use Rattle.reo_session.specs.Turn.{FiresFirst, AreQuiet};
+ghost use Rattle.reo_session.specs.Turn.{FiresFirst, AreQuiet, KeepsOne};
 ghost use Rattle.reo_session.specs.Running.{FiresNext};
 ghost use Rattle.reo_session.specs.Watch.{AsleepAreQuiet, WakesFor};
 
+use crate::progress::Last;
 use crate::steps::Stepper;
 use crate::watch::{Watch, skip_asleep};
 use reo_fabric::{Decider, PlainEngine};
-use reo_net::Step;
+use reo_trace::Recorder;
 use reo_value::Value;
-use sqlite_items::Items;
-use std::alloc::{AllocError, Global};
+use std::alloc::AllocError;
 
 /// A region fires, where it can; else it is asleep from now on.
 fn try_region<D: Decider + Drop>(
@@ -90,33 +89,32 @@ pub(crate) fn fire_next<D: Decider + Drop>(
     fire_between(engine, awake, 0, place)
 }
 
-/// The places that an entry puts and gets at.
-#[derive(Drop)]
-pub(crate) struct Answers {
-    pub puts: Items<(u32, Value)>,
-    pub gets: Items<(u32, Value)>,
+/// Makes a list the same as these places.
+fn copy_places(list: &mut Vec<(u32, Value)>, places: &[(u32, Value)]) -> Result<(), AllocError>
+    ensures { OnOk result (list.new.items ≡ places.now) }
+{
+    list.clear();
+    list.extend_from_slice(places)
 }
 
 /// Keeps the step of the engine's last entry, wakes the regions that have places of it, and tells where it is answered.
-pub(crate) fn keep_step<P: Stepper>(
-    alloc: Global,
+pub(crate) fn keep_step<P: Stepper, R: Recorder>(
     engine: &PlainEngine<&P>,
     watch: &mut Watch,
     plan: &P,
-    steps: &mut Vec<Step>,
-) -> Result<Answers, AllocError>
+    recorder: &mut R,
+    last: &mut Last,
+) -> Result<(), AllocError>
     requires last { (entry : AnyEntry) × (engine.now.last ≡ Some entry) × P.may_step plan.now entry }
-    ensures step { OnOk result ((entry : AnyEntry) → engine.now.last ≡ Some entry → (step : AnyStep) × (steps.new.items ≡ steps.old.items ++ step ∷ []) × P.has_step plan.now entry step) }
+    ensures step { OnOk result ((entry : AnyEntry) → engine.now.last ≡ Some entry → KeepsOne (R.has_kept recorder.old) (R.has_kept recorder.new) (P.has_step plan.now entry)) }
     ensures wakes { OnOk result ((entry : AnyEntry) → engine.now.last ≡ Some entry → WakesFor entry watch.old watch.new) }
-    ensures puts { IfOk result (λ answers. (entry : AnyEntry) → engine.now.last ≡ Some entry → answers.puts ≡ entry.puts) }
-    ensures gets { IfOk result (λ answers. (entry : AnyEntry) → engine.now.last ≡ Some entry → answers.gets ≡ entry.gets) }
+    ensures puts { OnOk result ((entry : AnyEntry) → engine.now.last ≡ Some entry → last.new.puts.items ≡ entry.puts) }
+    ensures gets { OnOk result ((entry : AnyEntry) → engine.now.last ≡ Some entry → last.new.gets.items ≡ entry.gets) }
 {
-    let last = engine.last().unwrap();
-    let step = plan.step_of(alloc, &last)?;
-    steps.push(step)?;
-    watch.wake_for(&last);
-    Ok(Answers {
-        puts: Items::from_slice(alloc, last.puts())?,
-        gets: Items::from_slice(alloc, last.gets())?,
-    })
+    let entry = engine.last().unwrap();
+    plan.step_into(&entry, &mut last.pairs)?;
+    recorder.keep(last.pairs.as_slice())?;
+    watch.wake_for(&entry);
+    copy_places(&mut last.puts, entry.puts())?;
+    copy_places(&mut last.gets, entry.gets())
 }

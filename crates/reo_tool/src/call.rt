@@ -1,10 +1,9 @@
 //! The call that does all that the program does.
 ghost use Rattle.std.specs.Prelude.{◌≡◌, ◌+◌, ◌<◌, ◌^◌, ◌≤◌, ◌⊎◌, ◌↔◌, length, IsTrue, IfOk, IfErr, OnOk, None};
 ghost use Rattle.reo_document.specs.Document.{circuit_of};
-ghost use Rattle.reo_schedule.specs.Plain.{IsPlainReport};
 ghost use Rattle.reo_session.specs.Prepared.{Declines, IsPrepared};
+ghost use Rattle.reo_session.specs.Text.{IsTextOfRun};
 ghost use Rattle.reo_outline.specs.Outline.{outline_text};
-ghost use Rattle.reo_trace.specs.ReportText.{report_text};
 ghost use Rattle.reo_tool.specs.Status.{status_of};
 ghost use Rattle.reo_tool.specs.Words.{HasRoom};
 ghost use Rattle.reo_tool.specs.FaultText.{text_text, session_text, out_of_memory_text};
@@ -18,8 +17,7 @@ use reo_document::{Document, TextRefusal, read_document};
 use reo_net::Net;
 use reo_outline::outline_of;
 use reo_print::print_document;
-use reo_session::{Prepared, SessionRefusal, plain_session, prepare};
-use reo_trace::{Report, WriteRefusal, write_report};
+use reo_session::{Prepared, ReportText, SessionRefusal, plain_text, prepare};
 use reo_value::Lexicon;
 use std::alloc::{AllocError, Global};
 
@@ -35,18 +33,26 @@ pub fn prepare_document(alloc: Global, document: &Document) -> Result<Prepared, 
     prepare(alloc, &raw)
 }
 
-/// Runs a document's scripts.
-fn report_of(
+/// Runs a document's scripts, and gives the text of the report.
+fn text_of_run(
     alloc: Global,
     document: &Document,
     prepared: &Prepared,
     limit: u64,
-) -> Result<Report, AllocError>
+) -> Result<ReportText, AllocError>
     requires prepared { IsPrepared (circuit_of document.now) prepared.now }
     requires limit { (1 ≤ limit) × (limit ≤ 100000) }
-    ensures { IfOk result (IsPlainReport (circuit_of document.now) document.now.texts document.now.scripts limit) }
+    ensures { IfOk result (IsTextOfRun (circuit_of document.now) document.now.nodes document.now.texts document.now.people document.now.scripts limit) }
 {
-    plain_session(alloc, prepared, document.texts(), document.scripts(), limit)
+    plain_text(
+        alloc,
+        prepared,
+        document.nodes(),
+        document.texts(),
+        document.people(),
+        document.scripts(),
+        limit,
+    )
 }
 
 /// The text that tells a document's regions.
@@ -125,33 +131,6 @@ pub fn tell_session<E: Sink>(
     }
 }
 
-/// Writes the report of a document, and gives the status of its ending; or tells that memory is wanting.
-fn write_out<K: Sink, E: Sink>(
-    alloc: Global,
-    out: &mut K,
-    err: &mut E,
-    document: &Document,
-    net: &Net,
-    report: &Report,
-) -> Status
-    requires { net.now ≡ circuit_of document.now }
-    ensures written { (IsWritten (sink_seen K.Sink out.old) (sink_seen K.Sink out.new) (report_text (circuit_of document.now) document.now.nodes document.now.texts document.now.people report.now) (status_of report.now.ending) result × (err.new ≡ err.old)) ⊎ (IsWritten (sink_seen E.Sink err.old) (sink_seen E.Sink err.new) out_of_memory_text Status.Memory result × (out.new ≡ out.old)) }
-{
-    match write_report(
-        alloc,
-        out,
-        net,
-        document.nodes(),
-        document.texts(),
-        document.people(),
-        report,
-    ) {
-        Ok(()) => Status::of_ending(report.ending),
-        Err(WriteRefusal::Fault(_)) => Status::WriteFault,
-        Err(WriteRefusal::NoMemory) => tell_memory(err),
-    }
-}
-
 /// Runs a document with a limit on its steps.
 fn run_document<K: Sink, E: Sink>(
     alloc: Global,
@@ -167,8 +146,8 @@ fn run_document<K: Sink, E: Sink>(
         Ok(prepared) => prepared,
         Err(refusal) => return tell_session(alloc, err, document.nodes(), refusal),
     };
-    match report_of(alloc, document, &prepared, limit) {
-        Ok(report) => write_out(alloc, out, err, document, &prepared.net, &report),
+    match text_of_run(alloc, document, &prepared, limit) {
+        Ok(text) => tell(out, text.bytes.as_slice(), Status::of_ending(text.ending)),
         Err(_) => tell_memory(err),
     }
 }

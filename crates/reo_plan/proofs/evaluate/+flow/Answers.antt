@@ -1,42 +1,42 @@
 use Rattle.std.proofs.Common.{◌≡◌, suc, ◌-◌, sym, ap, ◌∙◌, arith}
 use Rattle.std.specs.Option.{option_and_then}
 use Rattle.reo_flow.specs.declared.giver.Giver.TheVariants.{Unfed, Cell, Port, Same, Image}
-use Rattle.reo_flow.specs.Flow.{sources_of, image_at, flow}
+use Rattle.reo_flow.specs.Flow.{image_at, flow}
 use Rattle.reo_plan.specs.inside.Slots.{slot_at}
 use Rattle.reo_plan.proofs.SlotLemmas.{no_flow, flow_step}
 use Rattle.reo_plan.proofs.evaluate.+flow.Goals as goal
 
 pub returns-then-fuel-eq0 : goal.returns-then-fuel-eq0
-returns-then-fuel-eq0 t c =
+returns-then-fuel-eq0 g t c =
     let none : 0 ≡ c.args.fuel = omega arith in
-    sym (no_flow c.args.net.now c.args.texts.now (sources_of c.args.reading.now) (slot_at c.args.slots.now) c.args.slot)
-    ∙ ap (λ n. flow c.args.net.now c.args.texts.now (sources_of c.args.reading.now) (slot_at c.args.slots.now) n c.args.slot) none
+    sym (no_flow c.args.net.now c.args.texts.now (g.S.Sources.sources c.args.sources.now) (slot_at c.args.slots.now) c.args.slot)
+    ∙ ap (λ n. flow c.args.net.now c.args.texts.now (g.S.Sources.sources c.args.sources.now) (slot_at c.args.slots.now) n c.args.slot) none
 
 pub returns-in-Unfed : goal.returns-in-Unfed
-returns-in-Unfed t c =
+returns-in-Unfed g t c =
     let next : suc (c.args.fuel - 1) ≡ c.args.fuel = omega arith in
-    flow_step c.args.net.now c.args.texts.now (sources_of c.args.reading.now) c.args.slots.now c.args.fuel c.args.slot Unfed next (sym c.giver_at.ensures ∙ c.in-Unfed.is)
+    flow_step c.args.net.now c.args.texts.now (g.S.Sources.sources c.args.sources.now) c.args.slots.now c.args.fuel c.args.slot Unfed next (sym c.giver_at.ensures ∙ c.in-Unfed.is)
 
 pub returns-in-Cell : goal.returns-in-Cell
-returns-in-Cell t c =
+returns-in-Cell g t c =
     let next : suc (c.args.fuel - 1) ≡ c.args.fuel = omega arith in
-    c.value_in_cell.ensures
-    ∙ flow_step c.args.net.now c.args.texts.now (sources_of c.args.reading.now) c.args.slots.now c.args.fuel c.args.slot (Cell c.in-Cell.cell) next (sym c.giver_at.ensures ∙ c.in-Cell.is)
+    c.in_cell.ensures
+    ∙ flow_step c.args.net.now c.args.texts.now (g.S.Sources.sources c.args.sources.now) c.args.slots.now c.args.fuel c.args.slot (Cell c.in-Cell.cell) next (sym c.giver_at.ensures ∙ c.in-Cell.is)
 
 pub returns-in-Port : goal.returns-in-Port
-returns-in-Port t c =
+returns-in-Port g t c =
     let next : suc (c.args.fuel - 1) ≡ c.args.fuel = omega arith in
-    c.value_at_port.ensures
-    ∙ flow_step c.args.net.now c.args.texts.now (sources_of c.args.reading.now) c.args.slots.now c.args.fuel c.args.slot (Port c.in-Port.port) next (sym c.giver_at.ensures ∙ c.in-Port.is)
+    c.at_port.ensures
+    ∙ flow_step c.args.net.now c.args.texts.now (g.S.Sources.sources c.args.sources.now) c.args.slots.now c.args.fuel c.args.slot (Port c.in-Port.port) next (sym c.giver_at.ensures ∙ c.in-Port.is)
 
 pub returns-in-Same : goal.returns-in-Same
-returns-in-Same t c =
+returns-in-Same g t c =
     let next : suc (c.args.fuel - 1) ≡ c.args.fuel = omega arith in
     c.flow.ensures
-    ∙ flow_step c.args.net.now c.args.texts.now (sources_of c.args.reading.now) c.args.slots.now c.args.fuel c.args.slot (Same c.in-Same.other) next (sym c.giver_at.ensures ∙ c.in-Same.is)
+    ∙ flow_step c.args.net.now c.args.texts.now (g.S.Sources.sources c.args.sources.now) c.args.slots.now c.args.fuel c.args.slot (Same c.in-Same.other) next (sym c.giver_at.ensures ∙ c.in-Same.is)
 
 pub returns-in-Image : goal.returns-in-Image
-returns-in-Image t c =
+returns-in-Image g t c =
     let next : suc (c.args.fuel - 1) ≡ c.args.fuel = omega arith in
     c.image_of.ensures ∙ ap (option_and_then (image_at c.args.net.now c.args.texts.now c.in-Image.channel)) c.flow-datum.ensures
-    ∙ flow_step c.args.net.now c.args.texts.now (sources_of c.args.reading.now) c.args.slots.now c.args.fuel c.args.slot (Image c.in-Image.channel c.in-Image.other) next (sym c.giver_at.ensures ∙ c.in-Image.is)
+    ∙ flow_step c.args.net.now c.args.texts.now (g.S.Sources.sources c.args.sources.now) c.args.slots.now c.args.fuel c.args.slot (Image c.in-Image.channel c.in-Image.other) next (sym c.giver_at.ensures ∙ c.in-Image.is)

@@ -1,4 +1,4 @@
 use Rattle.reo_plan.proofs.evaluate.+flow.Given as goal
 
 abbrev pub decreases-flow : goal.decreases-flow
-decreases-flow l = l.fuel
+decreases-flow g l = l.fuel

@@ -8,7 +8,7 @@ pub returns-clause-calls : goal.returns-clause-calls
 returns-clause-calls g c =
     let first = c.in_ok-collect_from.ensures in
     let second = c.in_ok-collect_from-2.ensures in
-    calls_then c.args.scripts.now c.args.answers.now.puts c.args.answers.now.gets c.args.engine.now c.collect_from.new.engine c.collect_from-2.new.engine c.args.watch.now c.collect_from.new.watch c.collect_from-2.new.watch
+    calls_then c.args.scripts.now c.args.last.now.puts.items c.args.last.now.gets.items c.args.engine.now c.collect_from.new.engine c.collect_from-2.new.engine c.args.watch.now c.collect_from.new.watch c.collect_from-2.new.watch
     c.args.calls.now c.collect_from.new.calls c.collect_from-2.new.calls c.requires.may c.requires.answered first.takes
     (subst (All (λ place. IsAnswered c.collect_from.new.engine.ports place.0 → ⊥)) c.as_slice.ensures first.cleared) second.takes
     (subst (All (λ place. IsAnswered c.collect_from-2.new.engine.ports place.0 → ⊥)) c.as_slice-2.ensures second.cleared)
@@ -17,7 +17,7 @@ pub returns-clause-posted : goal.returns-clause-posted
 returns-clause-posted g c =
     let first = c.in_ok-collect_from.ensures in
     let second = c.in_ok-collect_from-2.ensures in
-    posted_then c.args.scripts.now c.args.answers.now.puts c.args.answers.now.gets c.args.engine.now c.collect_from.new.engine c.collect_from-2.new.engine c.args.watch.now c.collect_from.new.watch c.collect_from-2.new.watch
+    posted_then c.args.scripts.now c.args.last.now.puts.items c.args.last.now.gets.items c.args.engine.now c.collect_from.new.engine c.collect_from-2.new.engine c.args.watch.now c.collect_from.new.watch c.collect_from-2.new.watch
     c.args.calls.now c.collect_from.new.calls c.collect_from-2.new.calls c.requires.may c.requires.answered first.takes
     (subst (All (λ place. IsAnswered c.collect_from.new.engine.ports place.0 → ⊥)) c.as_slice.ensures first.cleared) second.takes
     (subst (All (λ place. IsAnswered c.collect_from-2.new.engine.ports place.0 → ⊥)) c.as_slice-2.ensures second.cleared)

@@ -1,12 +1,10 @@
 use Rattle.std.proofs.Common.{◌+◌, ◌<◌, ◌≤◌, List, length, sym, ap, ◌∙◌, subst}
 use Rattle.std.specs.Borrow.{Bor}
-use Rattle.reo_net.specs.declared.circuit.Step.{Step}
 use Rattle.reo_fabric.specs.Engine.{EngineState}
 use Rattle.reo_trace.specs.declared.report.Called.{Called}
 use Rattle.reo_trace.specs.declared.report.Ending.TheVariants.{Stuck}
-use Rattle.reo_schedule.specs.Plain.{IsPlainReport}
 use Rattle.reo_session.specs.Running.{same_lengths}
-use Rattle.reo_session.specs.Session.{firings_of}
+use Rattle.reo_session.specs.Session.{Reports, firings_of}
 use Rattle.reo_session.specs.Turn.{AreQuiet}
 use Rattle.reo_session.proofs.ProgressLemmas.{not_all}
 use Rattle.reo_session.proofs.SessionLaw.{from_engine, reports_done, reports_limit, reports_stuck}
@@ -18,7 +16,7 @@ returns-then-all_answered g c =
     let e = c.args.engine.now in
     let p = c.loop-turn.progress in
     record {
-      plain = reports_done b.net.now b.texts.now b.scripts.now e.fabric (firings_of b.tables.now) b.limit _ _ _ _ c.requires.set e.decider c.requires.some c.loop-turn.engine p.steps.items p.calls.items c.loop-turn.place c.loop-turn.invariant.running
+      plain = reports_done b.net.now b.texts.now b.scripts.now e.fabric (firings_of b.tables.now) b.limit _ _ _ _ c.requires.set e.decider c.requires.some c.loop-turn.engine (g.R.Recorder.has_kept c.loop-turn.recorder) p.calls.items c.loop-turn.place c.loop-turn.invariant.running
           (ap (same_lengths b.scripts.now) (sym c.deref.ensures.value) ∙ sym c.if-all_answered.ensures);
     }
 
@@ -35,13 +33,13 @@ returns-in-None g c =
     let same_engine = rw c.in-None.is at c.in_ok-next.ensures.same_engine in
     let same_steps = rw c.in-None.is at c.in_ok-next.ensures.same_steps in
     let same_calls = rw c.in-None.is at c.in_ok-next.ensures.same_calls in
-    let below : length p.steps.items < b.limit = subst (λ n. n < b.limit) (sym c.loop-turn.invariant.counted) c.loop-turn-test.true in
+    let below : c.loop-turn.engine.count < b.limit = subst (λ n. n < b.limit) (sym c.loop-turn.invariant.counted) c.loop-turn-test.true in
     let quiet_before = subst (λ n. AreQuiet (g.P.Decider.first_choice c.args.plan.now) c.loop-turn.engine 0 n) c.requires.regions (subst (λ (x : EngineState (Bor g.row.P.Denot)). AreQuiet (g.P.Decider.first_choice c.args.plan.now) x 0 c.args.board.regions) same_engine quiet) in
-    let stuck = reports_stuck b.net.now b.texts.now b.scripts.now e.fabric (firings_of b.tables.now) b.limit _ _ _ _ c.requires.set e.decider c.requires.some c.loop-turn.engine p.steps.items p.calls.items c.loop-turn.place c.loop-turn.invariant.running
+    let stuck = reports_stuck b.net.now b.texts.now b.scripts.now e.fabric (firings_of b.tables.now) b.limit _ _ _ _ c.requires.set e.decider c.requires.some c.loop-turn.engine (g.R.Recorder.has_kept c.loop-turn.recorder) p.calls.items c.loop-turn.place c.loop-turn.invariant.running
     (ap (same_lengths b.scripts.now) (sym c.deref.ensures.value) ∙ sym c.if-all_answered.ensures) below quiet_before in
     record {
-      plain = subst (λ (ss : List Step). IsPlainReport b.net.now b.texts.now b.scripts.now b.limit (record { steps = ss; calls = c.turn.new.progress.calls.items; ending = Stuck })) (sym same_steps)
-          (subst (λ (cs : List (List Called)). IsPlainReport b.net.now b.texts.now b.scripts.now b.limit (record { steps = p.steps.items; calls = cs; ending = Stuck })) (sym same_calls) stuck);
+      plain = subst (λ (r : g.row.R.Denot). Reports b.net.now b.texts.now b.scripts.now b.limit (g.R.Recorder.has_kept r) c.turn.new.progress.calls.items Stuck) (sym same_steps)
+          (subst (λ (cs : List (List Called)). Reports b.net.now b.texts.now b.scripts.now b.limit (g.R.Recorder.has_kept c.loop-turn.recorder) cs Stuck) (sym same_calls) stuck);
     }
 
 pub loop-turn-preserved : goal.loop-turn-preserved
@@ -52,7 +50,7 @@ loop-turn-preserved g c =
     let running = rw c.in-Some.is at c.in_ok-next.ensures.running in
     let one_step = rw c.in-Some.is at c.in_ok-next.ensures.one_step in
     record {
-      running = from_engine b.net.now b.texts.now b.scripts.now e.fabric (firings_of b.tables.now) b.limit e.decider c.loop-turn.engine c.turn.new.engine c.turn.new.progress.steps.items c.turn.new.progress.calls.items c.in-Some.next r.fabric_is r.decider_is running;
+      running = from_engine b.net.now b.texts.now b.scripts.now e.fabric (firings_of b.tables.now) b.limit e.decider c.loop-turn.engine c.turn.new.engine (g.R.Recorder.has_kept c.turn.new.recorder) c.turn.new.progress.calls.items c.in-Some.next r.fabric_is r.decider_is running;
       watching = rw c.in-Some.is at c.in_ok-next.ensures.watching;
       counted = one_step ∙ ap (λ n. n + 1) c.loop-turn.invariant.counted;
     }
@@ -63,7 +61,7 @@ returns-then-all_answered-2 g c =
     let e = c.args.engine.now in
     let p = c.loop-turn.progress in
     record {
-      plain = reports_done b.net.now b.texts.now b.scripts.now e.fabric (firings_of b.tables.now) b.limit _ _ _ _ c.requires.set e.decider c.requires.some c.loop-turn.engine p.steps.items p.calls.items c.loop-turn.place c.loop-turn.invariant.running
+      plain = reports_done b.net.now b.texts.now b.scripts.now e.fabric (firings_of b.tables.now) b.limit _ _ _ _ c.requires.set e.decider c.requires.some c.loop-turn.engine (g.R.Recorder.has_kept c.loop-turn.recorder) p.calls.items c.loop-turn.place c.loop-turn.invariant.running
           (ap (same_lengths b.scripts.now) (sym c.deref-2.ensures.value) ∙ sym c.if-all_answered-2.ensures);
     }
 
@@ -73,6 +71,6 @@ returns-else-all_answered-2 g c =
     let e = c.args.engine.now in
     let p = c.loop-turn.progress in
     record {
-      plain = reports_limit b.net.now b.texts.now b.scripts.now e.fabric (firings_of b.tables.now) b.limit _ _ _ _ c.requires.set e.decider c.requires.some c.loop-turn.engine p.steps.items p.calls.items c.loop-turn.place c.loop-turn.invariant.running
+      plain = reports_limit b.net.now b.texts.now b.scripts.now e.fabric (firings_of b.tables.now) b.limit _ _ _ _ c.requires.set e.decider c.requires.some c.loop-turn.engine (g.R.Recorder.has_kept c.loop-turn.recorder) p.calls.items c.loop-turn.place c.loop-turn.invariant.running
           (ap (same_lengths b.scripts.now) (sym c.deref-2.ensures.value) ∙ sym c.if-all_answered-2.ensures) (subst (λ n. b.limit ≤ n) (sym c.loop-turn.invariant.counted) c.loop-turn-test.false);
     }

@@ -1,6 +1,5 @@
 use Rattle.std.proofs.Common.{◌≡◌, ℕ, ◌<◌, List, length, map, slice_get, sym, ap, ◌∙◌, subst}
 use Rattle.std.proofs.lemmas.Option.{slice_get_within, get_or_from_slice_get}
-use Rattle.reo_net.specs.declared.circuit.Step.{Step}
 use Rattle.reo_fabric.specs.declared.reading.Reading.{Reading}
 use Rattle.reo_flow.specs.declared.giver.Giver.{Giver}
 use Rattle.reo_flow.specs.Allows.{Allows}
@@ -12,7 +11,7 @@ use Rattle.reo_plan.specs.inside.Rows.{values_at}
 use Rattle.reo_plan.specs.inside.Back.{reading_back}
 use Rattle.reo_plan.proofs.DeciderLaw.{entry_row}
 use Rattle.reo_plan.proofs.BackLaw.{step_pairs}
-use Rattle.reo_plan.proofs.plans.Plan.step_of.Goals as goal
+use Rattle.reo_plan.proofs.plans.Plan.step_into.Goals as goal
 
 pub bounds-as_slice-region : goal.bounds-as_slice-region
 bounds-as_slice-region c =
@@ -38,7 +37,7 @@ returns c =
     let tables = map firings_in c.self.inside.tables.now in
     let entry = c.args.entry.now in
     record {
-      step = subst (λ (s : PlanState). (reading : Reading) (allowed : Allows s.circuit s.texts s.tables entry.region reading entry) → ◌≡◌ {A = Step} (record { pairs = c.in_ok-pairs.pairs }) allowed.step) c.self.view_is
+      step = subst (λ (s : PlanState). (reading : Reading) (allowed : Allows s.circuit s.texts s.tables entry.region reading entry) → c.pairs_into.new.pairs.items ≡ allowed.step.pairs) c.self.view_is
           (λ reading allowed.
           let at = entry_row net texts tables c.self.inside.plans c.self.invariant.1 entry.region reading entry allowed in
           let rows : c.as_slice-rows.result.now ≡ at.rows =
@@ -46,12 +45,9 @@ returns c =
           ∙ get_or_from_slice_get c.as_slice.result.now c.region.result at.rows _ (ap (slice_get c.as_slice.result.now) c.region.ensures ∙ ap (λ plans. slice_get plans entry.region) c.as_slice.ensures ∙ at.rows_found) in
           let row : c.index-rows-choice.result ≡ at.row =
           c.index-rows-choice.is ∙ get_or_from_slice_get c.as_slice-rows.result.now c.choice.result at.row _ (ap (slice_get c.as_slice-rows.result.now) c.choice.ensures ∙ ap (λ (rs : List Row). slice_get rs entry.choice) rows ∙ at.row_found) in
-          let pairs : c.in_ok-pairs.pairs ≡ allowed.step.pairs =
-          c.in_ok-pairs.ensures
-          ∙ ap (λ (r : Reading). values_at (slot_value net texts (sources_of r) c.as_slice-slots.result.now) c.as_slice-named.result.now) c.in_ok-reading.ensures
+          c.in_ok-pairs_into.ensures
           ∙ ap (λ (slots : List Giver). values_at (slot_value net texts (sources_of (reading_back entry)) slots) c.as_slice-named.result.now) c.as_slice-slots.ensures
           ∙ ap (λ (named : List (ℕ × ℕ)). values_at (slot_value net texts (sources_of (reading_back entry)) c.index-rows-choice.result.slots) named) c.as_slice-named.ensures
           ∙ ap (λ (r : Row). values_at (slot_value net texts (sources_of (reading_back entry)) r.slots) r.named) row
-          ∙ step_pairs net c.nodes-nodes.ensures.checked texts tables c.self.invariant.0 entry.region reading entry allowed at.row at.is_row in
-          (λ i. record { pairs = pairs i }));
+          ∙ step_pairs net c.nodes-nodes.ensures.checked texts tables c.self.invariant.0 entry.region reading entry allowed at.row at.is_row);
     }

@@ -2,7 +2,7 @@ use Rattle.std.proofs.Common.{ℕ, map, sym, ap, ◌∙◌}
 use Rattle.std.specs.Option.{option_and_then}
 use Rattle.reo_fabric.specs.Entry.{at_place}
 use Rattle.reo_flow.specs.Flow.{offered_value}
-use Rattle.reo_plan.proofs.evaluate.value_at_port.Goals as goal
+use Rattle.reo_plan.proofs.sources.ReadingSources.at_port.Goals as goal
 
 pub returns-in-Some : goal.returns-in-Some
 returns-in-Some c =
