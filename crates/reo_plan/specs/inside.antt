@@ -7,3 +7,4 @@ pub mod Sides
 pub mod Back
 pub mod Marks
 pub mod Asks
+pub mod Known

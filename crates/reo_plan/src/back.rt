@@ -6,7 +6,7 @@ ghost use Rattle.reo_plan.specs.inside.Rows.{values_at};
 ghost use Rattle.reo_plan.specs.inside.Sides.{one_place};
 ghost use Rattle.reo_plan.specs.inside.Back.{reading_back};
 
-use crate::evaluate::slot_value;
+use crate::known::{known_at, turn_to};
 use reo_fabric::EntryRef;
 use reo_flow::Giver;
 use reo_net::Net;
@@ -26,27 +26,7 @@ fn add_pair(
     Ok(())
 }
 
-/// A slot with its value, which need not be found anew for the slot that is known.
-fn slot_again(
-    net: &Net,
-    texts: &Lexicon,
-    entry: &EntryRef<'_>,
-    slots: &[Giver],
-    known: &(u32, Option<Value>),
-    slot: u32,
-) -> (u32, Option<Value>)
-    requires { known.now.1 ≡ slot_value net.now texts.now (sources_of (reading_back entry.now)) slots.now known.now.0 }
-    ensures slot { result.0 ≡ slot }
-    ensures value { result.1 ≡ slot_value net.now texts.now (sources_of (reading_back entry.now)) slots.now slot }
-{
-    if known.0 == slot {
-        *known
-    } else {
-        (slot, slot_value(net, texts, entry, slots, slot))
-    }
-}
-
-/// Makes a list the names with the values of their slots. Names that follow one another mostly share a slot.
+/// Makes a list the names with the values of their slots.
 pub(crate) fn pairs_into(
     pairs: &mut Vec<(u32, Value)>,
     net: &Net,
@@ -58,10 +38,10 @@ pub(crate) fn pairs_into(
     ensures { OnOk result (pairs.new.items ≡ values_at (slot_value net.now texts.now (sources_of (reading_back entry.now)) slots.now) named.now) }
 {
     pairs.clear();
-    let mut known = (0, slot_value(net, texts, entry, slots, 0));
+    let mut known = known_at(net, texts, entry, slots, 0);
     for place in named {
-        known = slot_again(net, texts, entry, slots, &known, place.1);
-        add_pair(pairs, place.0, &known.1)?;
+        turn_to(&mut known, net, texts, entry, slots, place.1);
+        add_pair(pairs, place.0, &known.value)?;
     }
     Ok(())
 }

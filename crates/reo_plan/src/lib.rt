@@ -8,6 +8,7 @@ mod evaluate;
 mod facts;
 mod first;
 mod givers;
+mod known;
 pub mod laws;
 mod marks;
 mod places;

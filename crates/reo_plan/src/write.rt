@@ -3,10 +3,11 @@ ghost use Rattle.std.specs.Prelude.{◌≡◌, ◌+◌, ◌≤◌, length};
 ghost use Rattle.reo_fabric.specs.Room.{HasRoomFor};
 ghost use Rattle.reo_flow.specs.Flow.{sources_of};
 ghost use Rattle.reo_plan.specs.inside.Slots.{slot_value};
+ghost use Rattle.reo_plan.specs.inside.Known.{IsKnown};
 ghost use Rattle.reo_plan.specs.inside.Rows.{values_at};
 ghost use Rattle.reo_plan.specs.inside.Sides.{added, used, most, one_place, entry_in};
 
-use crate::evaluate::slot_value;
+use crate::known::{Known, known_at, turn_to};
 use crate::row::Row;
 use reo_fabric::{Reading, Room};
 use reo_flow::Giver;
@@ -38,7 +39,7 @@ fn add(room: &mut Room, side: Side, place: u32, value: Option<Value>)
     }
 }
 
-/// Adds places with the values of their slots.
+/// Adds places with the values of their slots, of which one is known.
 fn write(
     room: &mut Room,
     side: Side,
@@ -46,14 +47,17 @@ fn write(
     texts: &Lexicon,
     reading: &Reading,
     slots: &[Giver],
+    known: &mut Known,
     places: &[(u32, u32)],
 )
-    requires { used room.old side + length (values_at (slot_value net.now texts.now (sources_of reading.now) slots.now) places.now) ≤ most room.old side }
-    ensures { room.new ≡ added room.old side (values_at (slot_value net.now texts.now (sources_of reading.now) slots.now) places.now) }
+    requires known { IsKnown net.now texts.now (sources_of reading.now) slots.now known.old }
+    requires room { used room.old side + length (values_at (slot_value net.now texts.now (sources_of reading.now) slots.now) places.now) ≤ most room.old side }
+    ensures known { IsKnown net.now texts.now (sources_of reading.now) slots.now known.new }
+    ensures room { room.new ≡ added room.old side (values_at (slot_value net.now texts.now (sources_of reading.now) slots.now) places.now) }
 {
     for (place, slot) in places {
-        let value = slot_value(net, texts, reading, slots, *slot);
-        add(room, side, *place, value);
+        turn_to(known, net, texts, reading, slots, *slot);
+        add(room, side, *place, known.value);
     }
 }
 
@@ -70,6 +74,7 @@ pub(crate) fn write_row(
     ensures { room.new ≡ record room.old { entry = entry_in net.now texts.now reading.now row.now room.old.entry.region choice } }
 {
     let slots = row.slots.as_slice();
+    let mut known = known_at(net, texts, reading, slots, 0);
     room.begin(choice);
     write(
         room,
@@ -78,6 +83,7 @@ pub(crate) fn write_row(
         texts,
         reading,
         slots,
+        &mut known,
         row.takes.as_slice(),
     );
     write(
@@ -87,6 +93,7 @@ pub(crate) fn write_row(
         texts,
         reading,
         slots,
+        &mut known,
         row.fills.as_slice(),
     );
     write(
@@ -96,6 +103,7 @@ pub(crate) fn write_row(
         texts,
         reading,
         slots,
+        &mut known,
         row.puts.as_slice(),
     );
     write(
@@ -105,6 +113,7 @@ pub(crate) fn write_row(
         texts,
         reading,
         slots,
+        &mut known,
         row.gets.as_slice(),
     );
 }

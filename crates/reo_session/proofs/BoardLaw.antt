@@ -61,5 +61,6 @@ plan_goes_by_tables c texts tables checked are = record {
       let own = subst (λ r. Allows c texts tables r reading entry) (sym is.of_region) is in
       let table = same_Some own.table is.table (sym own.tabled ∙ ap (slice_get tables) is.of_region ∙ is.tabled) in
       let names = same_Some own.names is.names (sym own.firing ∙ ap (λ t. slice_get t entry.choice) table ∙ is.firing) in
-      subst (λ s. IsStepOf c texts is.names entry s) (sym (each reading own)) (subst (λ ns. IsStepOf c texts ns entry own.step) names own.is_step);
+      let same : step ≡ own.step = λ i. record { pairs = each reading own i } in
+      subst (λ s. IsStepOf c texts is.names entry s) (sym same) (subst (λ ns. IsStepOf c texts ns entry own.step) names own.is_step);
 }

@@ -34,7 +34,7 @@ use Rattle.reo_schedule.specs.Calls.{calls_of}
 use Rattle.reo_schedule.specs.Plain.{IsPlainReport}
 use Rattle.reo_schedule.specs.Turn.{steps_of}
 use Rattle.reo_schedule.proofs.RunLaw.{begins, ends_done, ends_stuck, ends_at_limit}
-use Rattle.reo_session.specs.Running.{IsRunning, IsPosting, same_lengths}
+use Rattle.reo_session.specs.Running.{IsRunning, IsPosting, any_steps, same_lengths}
 use Rattle.reo_session.specs.Session.{IsSet, Reports}
 use Rattle.reo_session.specs.Turn.{AreQuiet}
 use Rattle.reo_session.proofs.PostLemmas.{all_first}
@@ -109,6 +109,24 @@ pub at_engine : {D : Type 0} (c : RawCircuit) (texts : List (List ℕ)) (scripts
 at_engine c texts scripts fabric tables limit decider engine has_kept calls place running =
     subst (λ d. IsRunning c texts scripts engine.fabric tables limit d engine has_kept calls place) (sym running.decider_is)
     (subst (λ f. IsRunning c texts scripts f tables limit decider engine has_kept calls place) (sym running.fabric_is) running)
+
+-- whoever kept the steps
+pub unkept : {D : Type 0} (c : RawCircuit) (texts : List (List ℕ)) (scripts : List (List Op)) (fabric : Fabric) (tables : List Table) (limit : ℕ) (decider : D) (engine : EngineState D) (has_kept : List Step → Type 0) (calls : List (List Called)) (place : ℕ)
+    → IsRunning c texts scripts fabric tables limit decider engine has_kept calls place → IsRunning c texts scripts fabric tables limit decider engine any_steps calls place
+unkept c texts scripts fabric tables limit decider engine has_kept calls place r = record {
+  turns = r.turns;
+  under_way = r.under_way;
+  kept = tt;
+  calls_are = r.calls_are;
+  place_is = r.place_is;
+  within = r.within;
+  fabric_is = r.fabric_is;
+  decider_is = r.decider_is;
+  cells_are = r.cells_are;
+  counted = r.counted;
+  ports_long = r.ports_long;
+  posted = r.posted;
+}
 
 pub from_engine : {D : Type 0} (c : RawCircuit) (texts : List (List ℕ)) (scripts : List (List Op)) (fabric : Fabric) (tables : List Table) (limit : ℕ) (decider : D) (before engine : EngineState D) (has_kept : List Step → Type 0) (calls : List (List Called)) (place : ℕ)
     → before.fabric ≡ fabric → before.decider ≡ decider → IsRunning c texts scripts before.fabric tables limit before.decider engine has_kept calls place → IsRunning c texts scripts fabric tables limit decider engine has_kept calls place

@@ -24,4 +24,4 @@ IsAllowedSomewhere c texts tables entry = (reading : Reading) × Allows c texts 
 -- the step is the entry's, whatever reading allows it
 abbrev pub IsStepWherever : RawCircuit → List (List ℕ) → List Table → Entry → Step → Type 0
 IsStepWherever c texts tables entry step = (reading : Reading) (allowed : Allows c texts tables entry.region reading entry)
-    → step ≡ allowed.step
+    → step.pairs ≡ allowed.step.pairs

@@ -35,6 +35,10 @@ pub record IsRunning {D : Type 0} (c : RawCircuit) (texts : List (List ℕ)) (sc
   pub ports_long : length engine.ports ≡ length c.ports
   pub posted : ArePosted scripts calls engine.ports
 
+-- of steps that are kept by nobody
+abbrev pub any_steps : List Step → Type 0
+any_steps steps = Unit {0}
+
 -- the region fires, and none before it in cyclic order from a place on has a choice
 pub record FiresNext {D : Type 0} (allows : ℕ → Reading → Entry → Type 0) (first_choice : ℕ → Reading → Option ℕ)
     (old new : EngineState D) (place region : ℕ) : Type 0 where

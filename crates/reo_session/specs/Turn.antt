@@ -18,8 +18,8 @@ pub record FiresFirst {D : Type 0} (Allows : ℕ → Reading → Entry → Type 
   pub fires : Fires Allows first_choice region old new number
   pub earlier : AreQuiet first_choice old from region
 
--- one more step is kept, and it is such a step
-pub record KeepsOne (has_kept has_kept_after : List Step → Type 0) (IsSuch : Step → Type 0) : Type 0 where
+-- one more step is kept, whatever was kept from a start on, and it is such a step
+pub record KeepsOne {R : Type 0} (has_kept has_kept_after : R → List Step → Type 0) (IsSuch : Step → Type 0) : Type 0 where
   pub step : Step
   pub is_such : IsSuch step
-  pub keeps : (steps : List Step) → has_kept steps → has_kept_after (steps ++ step ∷ [])
+  pub keeps : (start : R) (steps : List Step) → has_kept start steps → has_kept_after start (steps ++ step ∷ [])

@@ -7,7 +7,7 @@ ghost use Rattle.reo_fabric.specs.Engine.{started};
 ghost use Rattle.reo_flow.specs.Allows.{Table as AnyTable};
 ghost use Rattle.reo_trace.specs.Lawful.{AllAnswered};
 ghost use Rattle.reo_session.specs.Turn.{AreQuiet};
-ghost use Rattle.reo_session.specs.Running.{IsRunning, same_lengths};
+ghost use Rattle.reo_session.specs.Running.{IsRunning, any_steps, same_lengths};
 ghost use Rattle.reo_session.specs.Session.{IsSet, Reports, firings_of};
 ghost use Rattle.reo_session.specs.Watch.{IsWatching};
 
@@ -60,8 +60,8 @@ fn turn<P: Stepper, R: Recorder>(
     requires left { AllAnswered board.scripts.now progress.old.calls.items → ⊥ }
     requires below { engine.old.count < board.limit }
     requires watching { IsWatching (P.first_choice plan.now) board.scripts.now engine.old watch.old progress.old.calls.items }
-    requires running { IsRunning board.net.now board.texts.now board.scripts.now engine.old.fabric (firings_of board.tables.now) board.limit engine.old.decider engine.old (R.has_kept recorder.old) progress.old.calls.items place }
-    ensures running { IfOk result (λ next. IfSome next (IsRunning board.entry.net.now board.entry.texts.now board.entry.scripts.now engine.old.fabric (firings_of board.entry.tables.now) board.entry.limit engine.old.decider engine.new (R.has_kept recorder.new) progress.new.calls.items)) }
+    requires running { IsRunning board.net.now board.texts.now board.scripts.now engine.old.fabric (firings_of board.tables.now) board.limit engine.old.decider engine.old any_steps progress.old.calls.items place }
+    ensures running { IfOk result (λ next. IfSome next (λ after. (start : R) → IsRunning board.entry.net.now board.entry.texts.now board.entry.scripts.now engine.old.fabric (firings_of board.entry.tables.now) board.entry.limit engine.old.decider engine.old (R.has_kept start recorder.old) progress.old.calls.items place → IsRunning board.entry.net.now board.entry.texts.now board.entry.scripts.now engine.old.fabric (firings_of board.entry.tables.now) board.entry.limit engine.old.decider engine.new (R.has_kept start recorder.new) progress.new.calls.items after)) }
     ensures watching { IfOk result (λ next. IfSome next (λ _. IsWatching (P.first_choice plan.now) board.entry.scripts.now engine.new watch.new progress.new.calls.items)) }
     ensures one_step { IfOk result (λ next. IfSome next (λ _. engine.new.count ≡ engine.old.count + 1)) }
     ensures quiet { IfOk result (λ next. IfNone next (AreQuiet (P.first_choice plan.now) engine.new 0 board.entry.regions)) }
@@ -99,8 +99,8 @@ fn run_on<P: Stepper, R: Recorder>(
     requires few { board.limit ≤ 2 ^ 63 }
     requires first { engine.old.count ≡ 0 }
     requires watching { IsWatching (P.first_choice plan.now) board.scripts.now engine.old watch.old progress.old.calls.items }
-    requires running { IsRunning board.net.now board.texts.now board.scripts.now engine.old.fabric (firings_of board.tables.now) board.limit engine.old.decider engine.old (R.has_kept recorder.old) progress.old.calls.items 0 }
-    ensures plain { IfOk result (Reports board.entry.net.now board.entry.texts.now board.entry.scripts.now board.entry.limit (R.has_kept recorder.new) progress.new.calls.items) }
+    requires running { IsRunning board.net.now board.texts.now board.scripts.now engine.old.fabric (firings_of board.tables.now) board.limit engine.old.decider engine.old (R.has_kept recorder.old recorder.old) progress.old.calls.items 0 }
+    ensures plain { IfOk result (Reports board.entry.net.now board.entry.texts.now board.entry.scripts.now board.entry.limit (R.has_kept recorder.old recorder.new) progress.new.calls.items) }
 {
     let mut place = 0;
     let mut waiting = 0;
@@ -135,8 +135,8 @@ pub(crate) fn run<P: Stepper, R: Recorder>(
     requires regions { board.regions ≡ fabric.regions }
     requires some { 1 ≤ board.limit }
     requires few { board.limit ≤ 2 ^ 63 }
-    requires none { R.has_kept recorder.old [] }
-    ensures plain { IfOk result (λ ended. Reports board.entry.net.now board.entry.texts.now board.entry.scripts.now board.entry.limit (R.has_kept recorder.new) ended.calls ended.ending) }
+    requires none { R.has_kept recorder.old recorder.old [] }
+    ensures plain { IfOk result (λ ended. Reports board.entry.net.now board.entry.texts.now board.entry.scripts.now board.entry.limit (R.has_kept recorder.old recorder.new) ended.calls ended.ending) }
 {
     let mut watch = Watch::new(alloc, &fabric)?;
     let mut engine = PlainEngine::start(alloc, fabric, plan)?;

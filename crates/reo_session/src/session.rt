@@ -43,8 +43,8 @@ pub fn session_by<P: Stepper, R: Recorder>(
     requires some { 1 ≤ limit }
     requires few { limit ≤ 2 ^ 63 }
     requires plan { GoesByTables prepared.now.net texts.now (firings_of prepared.now.tables) (P.allows plan.now) (P.first_choice plan.now) (P.may_step plan.now) (P.has_step plan.now) }
-    requires none { R.has_kept recorder.old [] }
-    ensures plain { IfOk result (λ ended. Reports prepared.now.net texts.now scripts.now limit (R.has_kept recorder.new) ended.calls ended.ending) }
+    requires none { R.has_kept recorder.old recorder.old [] }
+    ensures plain { IfOk result (λ ended. Reports prepared.now.net texts.now scripts.now limit (R.has_kept recorder.old recorder.new) ended.calls ended.ending) }
 {
     known_circuit(&prepared.net, texts);
     known_scripts(scripts);
@@ -74,8 +74,8 @@ fn run_prepared<R: Recorder>(
     requires fit { ScriptsFit prepared.now.net scripts.now }
     requires some { 1 ≤ limit }
     requires few { limit ≤ 2 ^ 63 }
-    requires none { R.has_kept recorder.old [] }
-    ensures plain { IfOk result (λ ended. Reports prepared.now.net texts.now scripts.now limit (R.has_kept recorder.new) ended.calls ended.ending) }
+    requires none { R.has_kept recorder.old recorder.old [] }
+    ensures plain { IfOk result (λ ended. Reports prepared.now.net texts.now scripts.now limit (R.has_kept recorder.old recorder.new) ended.calls ended.ending) }
 {
     let plan = compile(
         alloc,

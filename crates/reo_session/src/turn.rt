@@ -94,6 +94,9 @@ fn copy_places(list: &mut Vec<(u32, Value)>, places: &[(u32, Value)]) -> Result<
     ensures { OnOk result (list.new.items ≡ places.now) }
 {
     list.clear();
+    if places.is_empty() {
+        return Ok(());
+    }
     list.extend_from_slice(places)
 }
 
@@ -106,7 +109,7 @@ pub(crate) fn keep_step<P: Stepper, R: Recorder>(
     last: &mut Last,
 ) -> Result<(), AllocError>
     requires last { (entry : AnyEntry) × (engine.now.last ≡ Some entry) × P.may_step plan.now entry }
-    ensures step { OnOk result ((entry : AnyEntry) → engine.now.last ≡ Some entry → KeepsOne (R.has_kept recorder.old) (R.has_kept recorder.new) (P.has_step plan.now entry)) }
+    ensures step { OnOk result ((entry : AnyEntry) → engine.now.last ≡ Some entry → KeepsOne (λ start. R.has_kept start recorder.old) (λ start. R.has_kept start recorder.new) (P.has_step plan.now entry)) }
     ensures wakes { OnOk result ((entry : AnyEntry) → engine.now.last ≡ Some entry → WakesFor entry watch.old watch.new) }
     ensures puts { OnOk result ((entry : AnyEntry) → engine.now.last ≡ Some entry → last.new.puts.items ≡ entry.puts) }
     ensures gets { OnOk result ((entry : AnyEntry) → engine.now.last ≡ Some entry → last.new.gets.items ≡ entry.gets) }

@@ -1,10 +1,11 @@
 -- How the pushes of parts make up that of a whole.
 use Rattle.std.proofs.Common.{◌≡◌, ℕ, ◌+◌, ◌<◌, List, ◌++◌, length, take, get_or, Result, Ok, Err, sym, ap, ◌∙◌, arith, append_assoc, length-append, subst}
 use Rattle.std.specs.Result.{IsErr}
-use Rattle.std.specs.Prelude.{Vec}
+use Rattle.std.specs.Prelude.{Vec, OnOk}
 use Rattle.std.specs.List.{flat_map}
 use Rattle.reo_trace.proofs.ListLemmas.{numbered-next, numbered-split, flat_map-numbered}
 use Rattle.reo_trace.specs.Buffer.{HasTaken, LacksRoom, Takes}
+use Rattle.reo_trace.specs.Passes.{numbered}
 
 pub HasTaken-trans : {Z : Type 0} (a b c : Vec ℕ Z) (x y : List ℕ) → HasTaken a b x → HasTaken b c y → HasTaken a c (x ++ y)
 HasTaken-trans a b c x y p q = record {
@@ -16,12 +17,14 @@ HasTaken-trans a b c x y p q = record {
 pub LacksRoom-front : {Z : Type 0} (a b : Vec ℕ Z) (x y : List ℕ) → LacksRoom a b x → LacksRoom a b (x ++ y)
 LacksRoom-front a b x y p = record {
   full = omega (arith, p.full, length-append x y);
+  len = p.len;
   capacity = p.capacity;
 }
 
 pub LacksRoom-trans : {Z : Type 0} (a b c : Vec ℕ Z) (x y : List ℕ) → HasTaken a b x → LacksRoom b c y → LacksRoom a c (x ++ y)
 LacksRoom-trans a b c x y p q = record {
   full = omega (arith, p.len, p.capacity, q.full, length-append x y);
+  len = omega (arith, p.len, q.len);
   capacity = omega (arith, p.capacity, q.capacity);
 }
 
@@ -51,3 +54,14 @@ LacksRoom-at f a b c xs i x d lt same p q =
 pub Takes-err : {Z T E : Type 0} (a b : Vec ℕ Z) (r : Result T E) (x : List ℕ) → IsErr r → LacksRoom a b x → Takes a b r x
 Takes-err a b (Ok done) x is_err lacks = absurd (cc)
 Takes-err a b (Err e) x is_err lacks = lacks
+
+-- what is told of a push that has room
+pub Takes-taken : {Z T E : Type 0} (a b : Vec ℕ Z) (r : Result T E) (x : List ℕ) → Takes a b r x → OnOk r (HasTaken a b x)
+Takes-taken a b (Ok done) x p = p
+Takes-taken a b (Err e) x p = tt
+
+-- one more of a list's numbered texts
+pub HasTaken-numbered : {A Z : Type 0} (f : ℕ → A → List ℕ) (a b c : Vec ℕ Z) (xs : List A) (i : ℕ) (x d : A) → i < length xs → get_or xs i d ≡ x
+    → HasTaken a b (numbered f 0 (take i xs)) → HasTaken b c (f i x) → HasTaken a c (numbered f 0 (take (i + 1) xs))
+HasTaken-numbered f a b c xs i x d lt same p q =
+    subst (λ l. HasTaken a c l) (sym (numbered-next f xs i x d lt same)) (HasTaken-trans a b c (numbered f 0 (take i xs)) (f i x) p q)

@@ -4,5 +4,3 @@ pub mod FrontLemmas
 pub mod ListLemmas
 pub mod PartLemmas
 pub mod ReportLemmas
-pub mod RoomLemmas
-pub mod WriteLemmas

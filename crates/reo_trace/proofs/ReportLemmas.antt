@@ -1,34 +1,38 @@
--- How the pieces of the steps' lines, the calls' lines and the end's line make up those of a report.
-use Rattle.std.proofs.Common.{◌≡◌, ℕ, List, [], take, length, ◌<◌, subst}
-use Rattle.std.specs.declared.option.Option.{Option}
-use Rattle.reo_base.specs.Streams.{IsExtended}
+-- The lines of steps, one step after the other, and the whole text.
+use Rattle.std.proofs.Common.{◌≡◌, ℕ, ◌+◌, List, [], ◌∷◌, ◌++◌, length, ap, ◌∙◌, sym, arith, append_assoc, append-nil, length-append}
 use Rattle.reo_net.specs.declared.circuit.RawCircuit.{RawCircuit}
-use Rattle.reo_trace.specs.declared.report.Report.{Report}
-use Rattle.reo_trace.specs.ReportText.{report_text}
-use Rattle.reo_trace.specs.Passes.{all_lines}
-use Rattle.reo_trace.specs.Pieces.{IsTaken, IsBroken}
-use Rattle.reo_trace.proofs.ListLemmas.{report_text-lines}
-use Rattle.reo_trace.proofs.WriteLemmas.{taken-whole, broken-whole, broken-short}
+use Rattle.reo_net.specs.declared.circuit.Step.{Step}
+use Rattle.reo_trace.specs.declared.report.Called.{Called}
+use Rattle.reo_trace.specs.declared.report.Ending.{Ending}
+use Rattle.reo_trace.specs.Lines.{LinesState, no_lines, after_steps}
+use Rattle.reo_trace.specs.ReportText.{step_line, step_lines, call_lines, end_line, report_text}
+use Rattle.reo_trace.proofs.ListLemmas.{step_lines-append}
 
-pub report-whole : (c : RawCircuit) (nodes texts people : List (List ℕ)) (report : Report) (a b : Option (List ℕ)) (h g : List ℕ) (n m : ℕ) → h ≡ [] → n ≡ 0 → g ≡ []
-    → IsTaken a b h g n m (all_lines c nodes texts people report) → IsExtended a b (report_text c nodes texts people report)
-report-whole c nodes texts people report a b h g n m none start empty p =
-    subst (λ l. IsExtended a b l) (report_text-lines c nodes texts people report)
-    (taken-whole a b g m (all_lines c nodes texts people report)
-    (subst (λ l. IsTaken a b l g 0 m (all_lines c nodes texts people report)) none (subst (λ k. IsTaken a b h g k m (all_lines c nodes texts people report)) start p)) empty)
+after_more : (start : LinesState) (steps more : List Step) → after_steps (after_steps start steps) more ≡ after_steps start (steps ++ more)
+after_more start steps more =
+    let lines : List Step → List ℕ = step_lines start.circuit start.nodes start.texts start.count in
+    let rest : List ℕ = step_lines start.circuit start.nodes start.texts (start.count + length steps) more in
+    let text : start.text ++ lines steps ++ rest ≡ start.text ++ lines (steps ++ more) =
+    append_assoc start.text (lines steps) rest
+    ∙ ap (λ l. start.text ++ l) (sym (step_lines-append start.circuit start.nodes start.texts start.count steps more)) in
+    let count : start.count + length steps + length more ≡ start.count + length (steps ++ more) = omega (arith, length-append steps more) in
+    λ i. record { circuit = start.circuit; nodes = start.nodes; texts = start.texts; text = text i; count = count i }
 
-broken : (c : RawCircuit) (nodes texts people : List (List ℕ)) (report : Report) (a b : Option (List ℕ)) (h : List ℕ) (n m : ℕ) → h ≡ [] → n ≡ 0
-    → IsBroken a b h n m (all_lines c nodes texts people report) → IsBroken a b [] 0 m (report_text c nodes texts people report)
-broken c nodes texts people report a b h n m none start p =
-    subst (λ l. IsBroken a b [] 0 m l) (report_text-lines c nodes texts people report)
-    (subst (λ l. IsBroken a b l 0 m (all_lines c nodes texts people report)) none (subst (λ k. IsBroken a b h k m (all_lines c nodes texts people report)) start p))
+-- one step more
+pub kept_more : (start old new : LinesState) (steps : List Step) (step : Step) → new ≡ after_steps old (step ∷ []) → old ≡ after_steps start steps
+    → new ≡ after_steps start (steps ++ step ∷ [])
+kept_more start old new steps step one before = one ∙ ap (λ s. after_steps s (step ∷ [])) before ∙ after_more start steps (step ∷ [])
 
-pub report-front : (c : RawCircuit) (nodes texts people : List (List ℕ)) (report : Report) (a b : Option (List ℕ)) (h : List ℕ) (n m : ℕ) → h ≡ [] → n ≡ 0
-    → IsBroken a b h n m (all_lines c nodes texts people report) → IsExtended a b (take m (report_text c nodes texts people report))
-report-front c nodes texts people report a b h n m none start p =
-    broken-whole a b m (report_text c nodes texts people report) (broken c nodes texts people report a b h n m none start p)
+-- a line more
+pub one_more : (old : LinesState) (step : Step) (text : List ℕ) (count : ℕ) → text ≡ old.text ++ step_line old.circuit old.nodes old.texts old.count step → count ≡ old.count + 1
+    → ◌≡◌ {A = LinesState} (record { circuit = old.circuit; nodes = old.nodes; texts = old.texts; text = text; count = count }) (after_steps old (step ∷ []))
+one_more old step text count is more =
+    let whole = is ∙ ap (λ l. old.text ++ l) (sym (append-nil (step_line old.circuit old.nodes old.texts old.count step))) in
+    λ i. record { circuit = old.circuit; nodes = old.nodes; texts = old.texts; text = whole i; count = more i }
 
-pub report-short : (c : RawCircuit) (nodes texts people : List (List ℕ)) (report : Report) (a b : Option (List ℕ)) (h : List ℕ) (n m : ℕ) → h ≡ [] → n ≡ 0
-    → IsBroken a b h n m (all_lines c nodes texts people report) → m < length (report_text c nodes texts people report)
-report-short c nodes texts people report a b h n m none start p =
-    broken-short a b m (report_text c nodes texts people report) (broken c nodes texts people report a b h n m none start p)
+-- the lines of all steps, then those of the calls and of the end
+pub whole_text : (c : RawCircuit) (nodes texts people : List (List ℕ)) (steps : List Step) (calls : List (List Called)) (ending : Ending) (lines : LinesState) (text : List ℕ)
+    → text ≡ lines.text ++ call_lines lines.circuit lines.nodes lines.texts people 0 calls ++ end_line ending → lines ≡ after_steps (no_lines c nodes texts) steps
+    → text ≡ report_text c nodes texts people (record { steps = steps; calls = calls; ending = ending })
+whole_text c nodes texts people steps calls ending lines text is kept =
+    is ∙ ap (λ s. s.text ++ call_lines s.circuit s.nodes s.texts people 0 calls ++ end_line ending) kept

@@ -10,6 +10,7 @@ pub record HasTaken {Z : Type 0} (old new : Vec ℕ Z) (text : List ℕ) : Type 
 -- the buffer had no room for the text
 pub record LacksRoom {Z : Type 0} (old new : Vec ℕ Z) (text : List ℕ) : Type 0 where
   pub full : vec_capacity old < vec_len old + length text
+  pub len : vec_len old ≤ vec_len new
   pub capacity : vec_capacity old ≤ vec_capacity new
 
 abbrev pub Takes : {Z T E : Type 0} → Vec ℕ Z → Vec ℕ Z → Result T E → List ℕ → Type 0

@@ -1,8 +1,10 @@
 pub mod Buffer
+pub mod Calls
 pub mod Escapes
 pub mod Fronts
 pub mod Lawful
 pub mod Laws
+pub mod Lines
 pub mod Passes
 pub mod ReportText
-pub mod Pieces
+pub mod Write

@@ -77,13 +77,3 @@ pub(crate) fn push_front_of(
     let place = place_of(net, nodes, fronts, name);
     push_bytes(buffer, &fronts.bytes.as_slice()[place.from..place.to])
 }
-
-/// How many bytes the front of a name of the circuit has.
-pub(crate) fn front_len(net: &Net, nodes: &Lexicon, fronts: &Fronts, name: u32) -> usize
-    requires fronts { AreFronts net.now nodes.now fronts.now }
-    requires within { name < name_count net.now }
-    ensures { result ≡ length (front_text net.now nodes.now name) }
-{
-    let place = place_of(net, nodes, fronts, name);
-    place.to - place.from
-}

@@ -6,15 +6,15 @@ ghost use Rattle.reo_value.specs.Lexicon.{text_at};
 ghost use Rattle.reo_trace.specs.Buffer.{Takes};
 ghost use Rattle.reo_trace.specs.Escapes as escapes;
 ghost use Rattle.reo_trace.specs.Fronts.{AreFronts};
-ghost use Rattle.reo_trace.specs.ReportText.{escaped, value_text, node_text, port_text, end_text, name_text, pair_text, step_line, op_text, call_line, end_line};
+ghost use Rattle.reo_trace.specs.ReportText.{escaped, value_text, node_text, port_text, end_text, name_text, pair_text, step_line, end_line};
 
+use crate::Ending;
 use crate::fronts::{Fronts, push_front_of};
-use crate::numbers::{push_place, push_step_number};
+use crate::numbers::push_step_number;
 use crate::shown::{Shown, push_shown};
-use crate::{Called, Ending};
 use itoa::Buffer;
-use reo_net::{Net, Port, Step};
-use reo_value::{Lexicon, Op, Value, Way};
+use reo_net::{Net, Port};
+use reo_value::{Lexicon, Value, Way};
 use std::alloc::AllocError;
 
 /// The text of this number, or no bytes where there is none.
@@ -114,7 +114,7 @@ pub fn push_value(buffer: &mut Vec<u8>, texts: &Lexicon, value: Value) -> Result
     }
 }
 
-fn push_node(
+pub(crate) fn push_node(
     buffer: &mut Vec<u8>,
     nodes: &Lexicon,
     ports: &[Port],
@@ -167,8 +167,8 @@ pub fn push_name(
     }
 }
 
-/// Appends the value of a name in a step's line.
-fn push_datum(
+/// Appends a value in a line: mostly that of the line before.
+pub(crate) fn push_datum(
     buffer: &mut Vec<u8>,
     texts: &Lexicon,
     shown: &mut Shown,
@@ -224,55 +224,14 @@ pub(crate) fn push_step(
     fronts: &Fronts,
     shown: &mut Shown,
     number: u64,
-    step: &Step,
+    pairs: &[(u32, Value)],
 ) -> Result<(), AllocError>
     requires { AreFronts net.now nodes.now fronts.now }
-    ensures { Takes buffer.old buffer.new result (step_line net.now nodes.now texts.now number step.now) }
+    ensures { Takes buffer.old buffer.new result (step_line net.now nodes.now texts.now number (record { pairs = pairs.now })) }
 {
     push_step_number(buffer, number)?;
-    push_pairs(
-        buffer,
-        net,
-        nodes,
-        texts,
-        fronts,
-        shown,
-        step.pairs.as_slice(),
-    )?;
+    push_pairs(buffer, net, nodes, texts, fronts, shown, pairs)?;
     push_bytes(buffer, b"\n")
-}
-
-fn push_op(buffer: &mut Vec<u8>, net: &Net, nodes: &Lexicon, op: Op) -> Result<(), AllocError>
-    ensures { Takes buffer.old buffer.new result (op_text net.now nodes.now op) }
-{
-    match op {
-        Op::Put(port, _) => {
-            push_bytes(buffer, b" put ")?;
-            push_node(buffer, nodes, net.ports(), port)
-        }
-        Op::Get(port) => {
-            push_bytes(buffer, b" get ")?;
-            push_node(buffer, nodes, net.ports(), port)
-        }
-    }
-}
-
-pub(crate) fn push_call(
-    buffer: &mut Vec<u8>,
-    net: &Net,
-    nodes: &Lexicon,
-    texts: &Lexicon,
-    person: &[u8],
-    call: &Called,
-) -> Result<(), AllocError>
-    ensures { Takes buffer.old buffer.new result (call_line net.now nodes.now texts.now person.now call.now) }
-{
-    push_bytes(buffer, b"call ")?;
-    push_bytes(buffer, person)?;
-    push_op(buffer, net, nodes, call.op)?;
-    push_bytes(buffer, b" ")?;
-    push_value(buffer, texts, call.value)?;
-    push_place(buffer, call.number)
 }
 
 pub(crate) fn push_ending(buffer: &mut Vec<u8>, ending: Ending) -> Result<(), AllocError>

@@ -1,5 +1,5 @@
-//! What a run keeps of its steps.
-ghost use Rattle.std.specs.Prelude.{List, ◌∷◌, [], ◌++◌, OnOk};
+//! Who is told the steps of a run, one after the other.
+ghost use Rattle.std.specs.Prelude.{List, [], ◌∷◌, ◌++◌, OnOk};
 ghost use Rattle.reo_net.specs.declared.circuit.Step.{Step as AnyStep};
 
 use reo_value::Value;
@@ -7,10 +7,10 @@ use std::alloc::AllocError;
 
 /// What a run keeps of its steps, in their order.
 pub trait Recorder {
-    /// These are the steps that were kept.
-    ghost has_kept: { Self → List AnyStep → Type 0 };
+    /// These are the steps that were kept from the one state to the other.
+    ghost has_kept: { Self → Self → List AnyStep → Type 0 };
 
     /// Keeps the next step, which has these pairs of names and values.
     fn keep(&mut self, pairs: &[(u32, Value)]) -> Result<(), AllocError>
-        ensures { OnOk result ((steps : List AnyStep) → has_kept self.old steps → has_kept self.new (steps ++ (record { pairs = pairs.now }) ∷ [])) };
+        ensures { OnOk result ((start : Self) (steps : List AnyStep) → has_kept start self.old steps → has_kept start self.new (steps ++ (record { pairs = pairs.now }) ∷ [])) };
 }

@@ -14,8 +14,8 @@ loop-place-preserved c =
     let named = c.args.named.now in
     let n = c.loop-place.place-index in
     let p = get_or named n (0, 0) in (
-      c.slot_again-known.ensures.value ∙ ap value (sym c.slot_again-known.ensures.slot),
-      c.in_ok-add_pair.ensures ∙ ap (λ l. l ++ one_place p.0 c.slot_again-known.result.1) c.loop-place.invariant.1
-          ∙ ap (λ o. values_at value (take n named) ++ one_place p.0 o) c.slot_again-known.ensures.value
+      c.turn_to.ensures.known,
+      c.in_ok-add_pair.ensures ∙ ap (λ l. l ++ one_place p.0 c.turn_to.new.known.value) c.loop-place.invariant.1
+          ∙ ap (λ o. values_at value (take n named) ++ one_place p.0 o) (c.turn_to.ensures.known ∙ ap value c.turn_to.ensures.slot)
           ∙ sym (values_more value named n p (slice_get-get_or named n (0, 0) (omega arith))),
     )

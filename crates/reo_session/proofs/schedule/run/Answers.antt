@@ -32,7 +32,7 @@ run_on-requires-clause-running g c =
     let long : length c.in_ok-engine.engine.ports ≡ length c.args.fabric.ports = ap (λ (x : EngineState (Bor g.row.P.Denot)). length x.ports) begun ∙ length-map c.args.fabric.ports (λ port. Idle) in
     let posting = subst (λ n. IsPosting b.scripts.now (length b.scripts.now) n ports) long c.post_first.ensures.posted in
     let same = c.post_first.ensures.engine ∙ ap (λ (x : EngineState (Bor g.row.P.Denot)). record x { ports = ports }) begun in
-    let kept = g.R.Recorder.has_kept c.args.recorder.now in
+    let kept = g.R.Recorder.has_kept c.args.recorder.now c.args.recorder.now in
     let at_first = starts b.net.now b.texts.now b.scripts.now c.args.fabric (firings_of b.tables.now) b.limit _ _ _ _ c.requires.set c.args.plan kept c.requires.none ports posting in
     (subst (λ (cs : List (List Called)). IsRunning b.net.now b.texts.now b.scripts.now c.post_first.new.engine.fabric (firings_of b.tables.now) b.limit c.post_first.new.engine.decider c.post_first.new.engine kept cs 0) (sym c.in_ok-no_calls.ensures)
     (subst (λ (x : EngineState (Bor g.row.P.Denot)). IsRunning b.net.now b.texts.now b.scripts.now x.fabric (firings_of b.tables.now) b.limit x.decider x kept (map (λ script. []) b.scripts.now) 0) (sym same) at_first))

@@ -2,7 +2,7 @@ use Rattle.std.proofs.Common.{ℕ, ◌+◌, List, [], ◌∷◌, length, length-
 use Rattle.std.specs.Borrow.{Bor}
 use Rattle.reo_value.specs.declared.value.Value.{Value}
 use Rattle.reo_fabric.specs.Engine.{EngineState}
-use Rattle.reo_session.specs.Running.{FiresNext}
+use Rattle.reo_session.specs.Running.{FiresNext, any_steps}
 use Rattle.reo_session.specs.Session.{firings_of}
 use Rattle.reo_session.specs.declared.watch.Watch.{Watch}
 use Rattle.reo_session.specs.Watch.{AreAnsweredAt, AsleepAreQuiet}
@@ -38,9 +38,9 @@ collect-requires-clause-may g c =
     let is = still_watch e.fabric c.args.watch.now was watching.is_watch (record { awake = c.in-Some.ensures.long; regions = refl; fillers = refl; takers = refl }) in
     let may = may_then b.scripts.now e c.fire_next.new.engine was c.keep_step.new.watch next.fires.entry c.args.progress.now.calls.items fabric
     (scripts_fit_fabric b.net.now e.fabric (firings_of b.tables.now) s.board b.scripts.now s.fit)
-    (long_fired b.net.now s.checked b.texts.now b.scripts.now s.fit s.put_values e.fabric (firings_of b.tables.now) s.board b.limit e.decider _ _ _ _ s.by_tables e (g.R.Recorder.has_kept c.args.recorder.now) c.args.progress.now.calls.items c.args.place r c.requires.left c.requires.below c.fire_next.new.engine c.in-Some.region next kept.step kept.is_such ∙ r.ports_long ∙ sym s.board.is_fabric.as_many)
+    (long_fired b.net.now s.checked b.texts.now b.scripts.now s.fit s.put_values e.fabric (firings_of b.tables.now) s.board b.limit e.decider _ _ _ _ s.by_tables e any_steps c.args.progress.now.calls.items c.args.place r c.requires.left c.requires.below c.fire_next.new.engine c.in-Some.region next kept.step kept.is_such ∙ r.ports_long ∙ sym s.board.is_fabric.as_many)
     (ap length r.calls_are ∙ r.under_way.lawful.components)
-    (open_fired b.net.now s.checked b.texts.now b.scripts.now s.fit s.put_values e.fabric (firings_of b.tables.now) s.board b.limit e.decider _ _ _ _ s.by_tables e (g.R.Recorder.has_kept c.args.recorder.now) c.args.progress.now.calls.items c.args.place r c.requires.left c.requires.below c.fire_next.new.engine c.in-Some.region next kept.step kept.is_such) is watching.waiting watching.knows wakes in
+    (open_fired b.net.now s.checked b.texts.now b.scripts.now s.fit s.put_values e.fabric (firings_of b.tables.now) s.board b.limit e.decider _ _ _ _ s.by_tables e any_steps c.args.progress.now.calls.items c.args.place r c.requires.left c.requires.below c.fire_next.new.engine c.in-Some.region next kept.step kept.is_such) is watching.waiting watching.knows wakes in
     may
 
 pub collect-requires-clause-answered : goal.collect-requires-clause-answered
@@ -54,19 +54,18 @@ collect-requires-clause-answered g c =
     let kept = c.in_ok-keep_step.ensures.step next.fires.entry last in
     subst (λ (puts : List (ℕ × Value)). AreAnsweredAt puts c.keep_step.new.last.gets.items c.fire_next.new.engine.ports) (sym (c.in_ok-keep_step.ensures.puts next.fires.entry last))
     (subst (λ (gets : List (ℕ × Value)). AreAnsweredAt next.fires.entry.puts gets c.fire_next.new.engine.ports) (sym (c.in_ok-keep_step.ensures.gets next.fires.entry last))
-    (answered_fired b.net.now s.checked b.texts.now b.scripts.now s.fit s.put_values e.fabric (firings_of b.tables.now) s.board b.limit e.decider _ _ _ _ s.by_tables e (g.R.Recorder.has_kept c.args.recorder.now) c.args.progress.now.calls.items c.args.place r c.requires.left c.requires.below c.fire_next.new.engine c.in-Some.region next kept.step kept.is_such))
+    (answered_fired b.net.now s.checked b.texts.now b.scripts.now s.fit s.put_values e.fabric (firings_of b.tables.now) s.board b.limit e.decider _ _ _ _ s.by_tables e any_steps c.args.progress.now.calls.items c.args.place r c.requires.left c.requires.below c.fire_next.new.engine c.in-Some.region next kept.step kept.is_such))
 
 pub returns-clause-running : goal.returns-clause-running
-returns-clause-running g c =
+returns-clause-running g c start r =
     let s = c.requires.set in
-    let r = c.requires.running in
     let e = c.args.engine.now in
     let b = c.args.board in
     let next = subst (λ (d : g.row.P.Denot). FiresNext (g.P.Decider.allows d) (g.P.Decider.first_choice d) e c.fire_next.new.engine c.args.place c.in-Some.region) c.requires.chooser c.in-Some.ensures.fires in
     let last = ap (λ (x : EngineState (Bor g.row.P.Denot)). x.last) next.fires.after in
     let kept = c.in_ok-keep_step.ensures.step next.fires.entry last in
-    running_more b.net.now s.checked b.texts.now b.scripts.now s.fit s.put_values e.fabric (firings_of b.tables.now) s.board b.limit e.decider _ _ _ _ s.by_tables e (g.R.Recorder.has_kept c.args.recorder.now) c.args.progress.now.calls.items c.args.place r c.requires.left c.requires.below c.fire_next.new.engine c.in-Some.region next kept.step kept.is_such
-    c.collect.new.engine (g.R.Recorder.has_kept c.keep_step.new.recorder) c.collect.new.calls.items (c.in-Some.region + 1) c.in_ok-collect.ensures.takes.engine kept.keeps c.in_ok-collect.ensures.calls refl
+    running_more b.net.now s.checked b.texts.now b.scripts.now s.fit s.put_values e.fabric (firings_of b.tables.now) s.board b.limit e.decider _ _ _ _ s.by_tables e (g.R.Recorder.has_kept start c.args.recorder.now) c.args.progress.now.calls.items c.args.place r c.requires.left c.requires.below c.fire_next.new.engine c.in-Some.region next kept.step kept.is_such
+    c.collect.new.engine (g.R.Recorder.has_kept start c.keep_step.new.recorder) c.collect.new.calls.items (c.in-Some.region + 1) c.in_ok-collect.ensures.takes.engine (kept.keeps start) c.in_ok-collect.ensures.calls refl
     c.in_ok-collect.ensures.takes.collected.ports_long c.in_ok-collect.ensures.posted
 
 pub returns-clause-watching : goal.returns-clause-watching
@@ -85,9 +84,9 @@ returns-clause-watching g c =
     let is = still_watch e.fabric c.args.watch.now was watching.is_watch (record { awake = c.in-Some.ensures.long; regions = refl; fillers = refl; takers = refl }) in
     let may = may_then b.scripts.now e c.fire_next.new.engine was c.keep_step.new.watch next.fires.entry c.args.progress.now.calls.items fabric
     (scripts_fit_fabric b.net.now e.fabric (firings_of b.tables.now) s.board b.scripts.now s.fit)
-    (long_fired b.net.now s.checked b.texts.now b.scripts.now s.fit s.put_values e.fabric (firings_of b.tables.now) s.board b.limit e.decider _ _ _ _ s.by_tables e (g.R.Recorder.has_kept c.args.recorder.now) c.args.progress.now.calls.items c.args.place r c.requires.left c.requires.below c.fire_next.new.engine c.in-Some.region next kept.step kept.is_such ∙ r.ports_long ∙ sym s.board.is_fabric.as_many)
+    (long_fired b.net.now s.checked b.texts.now b.scripts.now s.fit s.put_values e.fabric (firings_of b.tables.now) s.board b.limit e.decider _ _ _ _ s.by_tables e any_steps c.args.progress.now.calls.items c.args.place r c.requires.left c.requires.below c.fire_next.new.engine c.in-Some.region next kept.step kept.is_such ∙ r.ports_long ∙ sym s.board.is_fabric.as_many)
     (ap length r.calls_are ∙ r.under_way.lawful.components)
-    (open_fired b.net.now s.checked b.texts.now b.scripts.now s.fit s.put_values e.fabric (firings_of b.tables.now) s.board b.limit e.decider _ _ _ _ s.by_tables e (g.R.Recorder.has_kept c.args.recorder.now) c.args.progress.now.calls.items c.args.place r c.requires.left c.requires.below c.fire_next.new.engine c.in-Some.region next kept.step kept.is_such) is watching.waiting watching.knows wakes in
+    (open_fired b.net.now s.checked b.texts.now b.scripts.now s.fit s.put_values e.fabric (firings_of b.tables.now) s.board b.limit e.decider _ _ _ _ s.by_tables e any_steps c.args.progress.now.calls.items c.args.place r c.requires.left c.requires.below c.fire_next.new.engine c.in-Some.region next kept.step kept.is_such) is watching.waiting watching.knows wakes in
     watching_then (g.P.Decider.first_choice c.args.plan.now) b.scripts.now e c.fire_next.new.engine c.collect.new.engine was c.keep_step.new.watch c.collect.new.watch next.fires.entry
     c.args.progress.now.calls.items c.collect.new.calls.items is
     (subst (λ (d : g.row.P.Denot). AsleepAreQuiet (g.P.Decider.first_choice d) e c.fire_next.new.awake.items) c.requires.chooser c.in-Some.ensures.asleep)
