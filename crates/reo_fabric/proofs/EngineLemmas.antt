@@ -1,5 +1,5 @@
 -- What is kept inside an engine, from step to step.
-use Rattle.std.proofs.Common.{◌≡◌, ℕ, ◌<◌, ⊎_elim, List, [], ◌∷◌, ◌++◌, length, set, get_or, slice_get, All, Option, Some, None, IfSome, refl, sym, ap, ◌∙◌, subst, arith, length-set, length-append, get_or-set_same, get_or-set_other}
+use Rattle.std.proofs.Common.{◌≡◌, ℕ, ◌<◌, ⊎_elim, nat_eq, List, [], ◌∷◌, ◌++◌, length, set, get_or, slice_get, All, Option, Some, None, IfSome, refl, sym, ap, ◌∙◌, subst, arith, length-set, length-append, get_or-set_same, get_or-set_other}
 use Rattle.std.specs.Option.{option_map}
 use Rattle.std.proofs.Math.Seq.{get_or-append_seam}
 use Rattle.std.proofs.lemmas.Simd.{map-map}
@@ -10,6 +10,8 @@ use Rattle.std.proofs.lemmas.Option.{slice_get-get_or, slice_get_within, slice_g
 use Rattle.reo_value.specs.Code.{IsValue}
 use Rattle.reo_value.specs.declared.value.Value.{Value}
 use Rattle.reo_fabric.specs.declared.entry.Entry.{Entry}
+use Rattle.reo_fabric.specs.declared.fabric.CellSpec.{CellSpec}
+use Rattle.reo_fabric.specs.declared.fabric.PortSpec.{PortSpec}
 use Rattle.reo_fabric.specs.declared.fabric.Fabric.{Fabric}
 use Rattle.reo_fabric.specs.declared.reading.Reading.{Reading}
 use Rattle.reo_fabric.specs.declared.port_state.PortState.{PortState}
@@ -22,19 +24,23 @@ use Rattle.reo_fabric.specs.inside.Whole.{IsUnread}
 use Rattle.reo_fabric.specs.Laws.{AreValues}
 use Rattle.reo_fabric.specs.inside.Writes.{IsWithin}
 use Rattle.reo_fabric.specs.inside.Whole.{EachAt, IsRoomOf, IsEngine, last_entry}
+use Rattle.reo_fabric.specs.inside.Counts.{AreCounts, room_for}
 use Rattle.reo_fabric.proofs.PlaceLemmas.{at_place_holds}
 use Rattle.reo_fabric.proofs.FittingLemmas.{fitting_agree, fitting_have_room}
 
--- an element that is set at its place
-pub each_set : {A : Type 0} (P : ℕ → A → Type 0) (xs : List A) (i : ℕ) (x : A) → i < length xs → P i x → EachAt P xs → EachAt P (set xs i x)
-each_set P xs i x within here each = λ place y found.
+-- an element that is set at its place, where the others are as they have to be
+pub each_changed : {A : Type 0} (P Q : ℕ → A → Type 0) (xs : List A) (i : ℕ) (x : A) → i < length xs → Q i x → ((k : ℕ) (y : A) → (k ≡ i → ⊥) → P k y → Q k y) → EachAt P xs → EachAt Q (set xs i x)
+each_changed P Q xs i x within here others each = λ place y found.
     let inside : place < length xs = omega (arith, slice_get_within (set xs i x) place y found, length-set xs i x) in
     let there : slice_get (set xs i x) place ≡ Some (get_or (set xs i x) place x) = slice_get-get_or (set xs i x) place x (omega (arith, length-set xs i x)) in
     let value : get_or (set xs i x) place x ≡ y = same_Some (get_or (set xs i x) place x) y (sym there ∙ found) in
     ⊎_elim
-    (λ is. subst (P place) (sym (subst (λ k. get_or (set xs i x) k x ≡ x) (sym is) (get_or-set_same xs i x x within)) ∙ value) (subst (λ k. P k x) (sym is) here))
-    (λ ne. each place y (slice_get-get_or xs place x inside ∙ ap Some (sym (get_or-set_other xs i place x x ne) ∙ value)))
+    (λ is. subst (Q place) (sym (subst (λ k. get_or (set xs i x) k x ≡ x) (sym is) (get_or-set_same xs i x x within)) ∙ value) (subst (λ k. Q k x) (sym is) here))
+    (λ ne. others place y ne (each place y (slice_get-get_or xs place x inside ∙ ap Some (sym (get_or-set_other xs i place x x ne) ∙ value))))
     (cases_eq place i)
+
+pub each_set : {A : Type 0} (P : ℕ → A → Type 0) (xs : List A) (i : ℕ) (x : A) → i < length xs → P i x → EachAt P xs → EachAt P (set xs i x)
+each_set P xs i x within here each = each_changed P P xs i x within here (λ k y ne is. is) each
 
 -- an element that comes at the end
 pub each_more : {A : Type 0} (P : ℕ → A → Type 0) (xs : List A) (n : ℕ) (x : A) → length xs ≡ n → P n x → EachAt P xs → EachAt P (xs ++ x ∷ [])
@@ -191,3 +197,14 @@ module _ (fabric : Fabric) (Allows : ℕ → Reading → Entry → Type 0) (cell
 -- a room as it was made
 pub new_room : (fabric : Fabric) (region : ℕ) (room : RoomState) → room ≡ room_of fabric region → IsRoomOf fabric region room
 new_room fabric region room is = subst (IsRoomOf fabric region) (sym is) refl
+
+-- a room that was made for counts
+pub counted_room : (fabric : Fabric) (takers fillers : List CellSpec) (there : List PortSpec) → takers ≡ fabric.cells → fillers ≡ fabric.cells → there ≡ fabric.ports → (takes fills ports : List ℕ)
+    → AreCounts (λ region cell. nat_eq cell.taker region) fabric.regions takers takes → AreCounts (λ region cell. nat_eq cell.filler region) fabric.regions fillers fills
+    → AreCounts (λ region port. nat_eq port.region region) fabric.regions there ports → (region take fill port : ℕ) → region < fabric.regions
+    → take ≡ get_or takes region take → fill ≡ get_or fills region fill → port ≡ get_or ports region port → room_for region take fill port ≡ room_of fabric region
+counted_room fabric takers fillers there are_takers are_fillers are_ports takes fills ports takes_are fills_are ports_are region take fill port within is_take is_fill is_port =
+    let of_takes = is_take ∙ takes_are.each region take within in
+    let of_fills = is_fill ∙ fills_are.each region fill within in
+    let of_ports = is_port ∙ ports_are.each region port within in
+    cc

@@ -5,3 +5,4 @@ pub mod WordLemmas
 pub mod WriteLemmas
 pub mod EngineLemmas
 pub mod HistoryLemmas
+pub mod ReadingLemmas

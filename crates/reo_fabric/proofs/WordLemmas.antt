@@ -31,7 +31,8 @@ module _ {A : Type 0} (test : A → Bool) where
       ∙ ap (λ b. cond b (n ∷ places_of test (n + 1) xs) (places_of test (n + 1) xs) ++ places_of test (n + length (x ∷ xs)) ys) (sym off)))
       (cases (test x))
 
-  one_more : (xs : List A) (i : ℕ) (d : A) → i < length xs → places_of test 0 (take (i + 1) xs) ≡ places_of test 0 (take i xs) ++ cond (test (get_or xs i d)) (i ∷ []) []
+  -- the places in a front that is longer by one
+  pub one_more : (xs : List A) (i : ℕ) (d : A) → i < length xs → places_of test 0 (take (i + 1) xs) ≡ places_of test 0 (take i xs) ++ cond (test (get_or xs i d)) (i ∷ []) []
   one_more xs i d within =
       ap (places_of test 0) (take_more xs i d within)
       ∙ (places_append 0 (take i xs) (get_or xs i d ∷ []) ∙ ap (λ m. places_of test 0 (take i xs) ++ cond (test (get_or xs i d)) (m ∷ []) []) (omega (arith, length-take-le i xs)))

@@ -2,3 +2,5 @@
 pub mod Spare
 pub mod Writes
 pub mod Whole
+pub mod Readings
+pub mod Counts

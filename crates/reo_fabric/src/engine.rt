@@ -7,9 +7,7 @@ ghost use Rattle.reo_fabric.specs.Fabric.{IsLawfulFabric};
 ghost use Rattle.reo_value.specs.Code.{IsValue};
 ghost use Rattle.reo_fabric.specs.Decider.{Fits};
 ghost use Rattle.reo_fabric.specs.Laws.{AreValues};
-ghost use Rattle.reo_fabric.specs.inside.Whole.{EachAt, IsRoomOf};
 ghost use Rattle.reo_fabric.specs.Engine.{port_at, started, engine_reading, Fires, answer_of, with_port, taken_answer};
-ghost use Rattle.reo_fabric.specs.inside.Whole.{IsUnread};
 
 use crate::carry::carry_out;
 use crate::decider::Decider;
@@ -17,8 +15,10 @@ use crate::entry_ref::EntryRef;
 use crate::fabric::{CellSpec, Fabric, PortSpec};
 use crate::port_state::PortState;
 use crate::reading::Reading;
+use crate::readings::all_unread;
 use crate::room::Room;
-use crate::words::{read_region, unread};
+use crate::rooms::all_rooms;
+use crate::words::read_region;
 use reo_value::{Value, word_of};
 use std::alloc::{AllocError, Global};
 use std::marker::Model;
@@ -183,29 +183,4 @@ fn idle_ports(alloc: Global, ports: &[PortSpec]) -> Result<Vec<PortState>, Alloc
         states.extend_from_slice(&[PortState::Idle])?;
     }
     Ok(states)
-}
-
-/// A reading for each region.
-fn all_unread(alloc: Global, fabric: &Fabric) -> Result<Vec<Reading>, AllocError>
-    requires { IsLawfulFabric fabric.now }
-    ensures len { IfOk result (λ readings. length readings.items ≡ fabric.now.regions) }
-    ensures unread { IfOk result (λ readings. EachAt (IsUnread fabric.now) readings.items) }
-{
-    let mut readings = Vec::new(alloc);
-    for region in 0..fabric.regions {
-        readings.push(unread(alloc, fabric, region)?)?;
-    }
-    Ok(readings)
-}
-
-/// A room for each region.
-fn all_rooms(alloc: Global, fabric: &Fabric) -> Result<Vec<Room>, AllocError>
-    ensures len { IfOk result (λ rooms. length rooms.items ≡ fabric.now.regions) }
-    ensures made { IfOk result (λ rooms. EachAt (IsRoomOf fabric.now) rooms.items) }
-{
-    let mut rooms = Vec::new(alloc);
-    for region in 0..fabric.regions {
-        rooms.push(Room::new(alloc, fabric, region)?)?;
-    }
-    Ok(rooms)
 }

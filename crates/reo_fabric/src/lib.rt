@@ -10,7 +10,9 @@ mod fabric;
 pub mod laws;
 mod port_state;
 mod reading;
+mod readings;
 mod room;
+mod rooms;
 mod spare;
 mod words;
 

@@ -1,5 +1,6 @@
 //! An entry that is written without memory.
 ghost use Rattle.std.specs.Prelude.{◌≡◌, ◌<◌, length, count_by, nat_eq, IfOk};
+ghost use Rattle.reo_fabric.specs.inside.Counts.{room_for};
 ghost use Rattle.reo_fabric.specs.Room.{room_of, begun, with_take, with_fill, with_put, with_get};
 
 use crate::entry_ref::EntryRef;
@@ -66,11 +67,31 @@ impl Room {
     {
         let cells = fabric.cells.as_slice();
         let ports = count_ports(fabric.ports.as_slice(), region);
+        let room = Room::with_most(
+            alloc,
+            region,
+            count_takes(cells, region),
+            count_fills(cells, region),
+            ports,
+        )?;
+        Ok(room)
+    }
+
+    /// A room of a region for so many cells that it takes from, cells that it fills, and ports.
+    pub(crate) fn with_most(
+        alloc: Global,
+        region: u32,
+        takes: usize,
+        fills: usize,
+        ports: usize,
+    ) -> Result<Room, AllocError>
+        ensures { IfOk result (λ room. room ≡ room_for region takes fills ports) }
+    {
         Ok(Room {
             region,
             choice: 0,
-            takes: Spare::new(alloc, count_takes(cells, region))?,
-            fills: Spare::new(alloc, count_fills(cells, region))?,
+            takes: Spare::new(alloc, takes)?,
+            fills: Spare::new(alloc, fills)?,
             puts: Spare::new(alloc, ports)?,
             gets: Spare::new(alloc, ports)?,
         })

@@ -1,6 +1,6 @@
 use Rattle.std.proofs.Common.{◌≡◌, vec_len}
 use Rattle.reo_fabric.specs.inside.Whole.{EachAt, IsRoomOf}
-use Rattle.reo_fabric.proofs.engine.all_rooms.Given as goal
+use Rattle.reo_fabric.proofs.rooms.all_rooms.Given as goal
 
 abbrev pub invariant-loop-region : goal.invariant-loop-region
 invariant-loop-region l = record {
