@@ -10,3 +10,4 @@ pub mod CellLemmas
 pub mod WebLemmas
 pub mod RegionLemmas
 pub mod ExistLemmas
+pub mod MemberLemmas
