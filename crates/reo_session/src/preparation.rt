@@ -3,11 +3,12 @@ ghost use Rattle.std.specs.Prelude.{◌≡◌, [], ◌∷◌, ◌++◌, slice_ge
 ghost use Rattle.reo_net.specs.Checks.{IsCircuit};
 ghost use Rattle.reo_net.specs.Regions.{Automaton as AnyAutomaton};
 ghost use Rattle.reo_cut.specs.Cut.{IsCut};
+ghost use Rattle.reo_product.specs.Region.{AreMembers};
 ghost use Rattle.reo_session.specs.Prepared.{AreRegionTables, Declines, DeclinesRegion, IsPrepared, IsTableOfRegion, of_check, of_table};
 
 use reo_cut::{Cut, cut_of};
 use reo_net::{CheckRefusal, Net, RawCircuit, check};
-use reo_product::{ProductRefusal, RegionTable, region_table};
+use reo_product::{Members, ProductRefusal, RegionTable, members_of, region_table_of};
 use sqlite_items::Items;
 use std::alloc::{AllocError, Global};
 use thiserror::Error;
@@ -74,12 +75,19 @@ fn checked(alloc: Global, raw: &RawCircuit) -> Result<Net, SessionRefusal>
     }
 }
 
-fn table_at(alloc: Global, net: &Net, cut: &Cut, region: u32) -> Result<RegionTable, SessionRefusal>
+fn table_at(
+    alloc: Global,
+    net: &Net,
+    cut: &Cut,
+    members: &Members,
+    region: u32,
+) -> Result<RegionTable, SessionRefusal>
     requires cut { IsCut net.now cut.now }
+    requires members { AreMembers cut.now.region_of cut.now.regions members.now }
     ensures table { IfOk result (λ table. (is_cut : IsCut net.now cut.now) (root : AnyAutomaton) → slice_get is_cut.roots region ≡ Some root → IsTableOfRegion net.now region root table) }
     ensures refused { IfErr result (λ why. (is_cut : IsCut net.now cut.now) (root : AnyAutomaton) → slice_get is_cut.roots region ≡ Some root → DeclinesRegion net.now region root why) }
 {
-    match region_table(alloc, net, cut, region) {
+    match region_table_of(alloc, net, cut, members, region) {
         Ok(table) => Ok(table),
         Err(refusal) => Err(refused_table(refusal)),
     }
@@ -99,9 +107,10 @@ fn tables_of(alloc: Global, net: &Net, cut: &Cut) -> Result<Items<RegionTable>, 
     ensures refused { IfErr result (Declines net.now) }
 {
     let _ = net.nodes();
+    let members = members_of(alloc, net, cut)?;
     let mut tables = Items::new(alloc);
     for region in 0..cut.regions {
-        let table = table_at(alloc, net, cut, region)?;
+        let table = table_at(alloc, net, cut, &members, region)?;
         keep(&mut tables, table)?;
     }
     Ok(tables)
