@@ -15,3 +15,4 @@ pub mod BackLaw
 pub mod MarkLemmas
 pub mod AskLemmas
 pub mod IncomingLemmas
+pub mod CellLemmas

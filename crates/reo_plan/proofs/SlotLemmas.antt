@@ -103,45 +103,45 @@ ok_with (Ok a) P Q R p q h = h a p q
 ok_with (Err e) P Q R p q h = tt
 
 -- what flows to a name is in its slot
-module _ (givers : List Giver) (fuel name : ℕ) where
-  pub has_none : (slots : List Giver) (slot : ℕ) → AreOrdered slots → slice_get slots slot ≡ Some Unfed → (c : RawCircuit) → HasFlow c (slot_at givers) 0 name slots slot
+module _ (givers : ℕ → Giver) (fuel name : ℕ) where
+  pub has_none : (slots : List Giver) (slot : ℕ) → AreOrdered slots → slice_get slots slot ≡ Some Unfed → (c : RawCircuit) → HasFlow c givers 0 name slots slot
   has_none slots slot ordered found c = record {
     within = slice_get_within slots slot Unfed found;
-    value = λ texts sources. slot_given c texts sources slots ordered slot Unfed found ∙ sym (no_flow c texts sources (slot_at givers) name);
+    value = λ texts sources. slot_given c texts sources slots ordered slot Unfed found ∙ sym (no_flow c texts sources givers name);
   }
 
-  pub has_unfed : (slots : List Giver) (slot : ℕ) → AreOrdered slots → slice_get slots slot ≡ Some Unfed → slot_at givers name ≡ Unfed → (c : RawCircuit) → HasFlow c (slot_at givers) (suc fuel) name slots slot
+  pub has_unfed : (slots : List Giver) (slot : ℕ) → AreOrdered slots → slice_get slots slot ≡ Some Unfed → givers name ≡ Unfed → (c : RawCircuit) → HasFlow c givers (suc fuel) name slots slot
   has_unfed slots slot ordered found is c = record {
     within = slice_get_within slots slot Unfed found;
-    value = λ texts sources. slot_given c texts sources slots ordered slot Unfed found ∙ sym (flow_is c texts sources (slot_at givers) fuel name Unfed is);
+    value = λ texts sources. slot_given c texts sources slots ordered slot Unfed found ∙ sym (flow_is c texts sources givers fuel name Unfed is);
   }
 
-  pub has_cell : (cell : ℕ) (slots : List Giver) (slot : ℕ) → AreOrdered slots → slice_get slots slot ≡ Some (Cell cell) → slot_at givers name ≡ Cell cell → (c : RawCircuit) → HasFlow c (slot_at givers) (suc fuel) name slots slot
+  pub has_cell : (cell : ℕ) (slots : List Giver) (slot : ℕ) → AreOrdered slots → slice_get slots slot ≡ Some (Cell cell) → givers name ≡ Cell cell → (c : RawCircuit) → HasFlow c givers (suc fuel) name slots slot
   has_cell cell slots slot ordered found is c = record {
     within = slice_get_within slots slot (Cell cell) found;
-    value = λ texts sources. slot_given c texts sources slots ordered slot (Cell cell) found ∙ sym (flow_is c texts sources (slot_at givers) fuel name (Cell cell) is);
+    value = λ texts sources. slot_given c texts sources slots ordered slot (Cell cell) found ∙ sym (flow_is c texts sources givers fuel name (Cell cell) is);
   }
 
-  pub has_port : (port : ℕ) (slots : List Giver) (slot : ℕ) → AreOrdered slots → slice_get slots slot ≡ Some (Port port) → slot_at givers name ≡ Port port → (c : RawCircuit) → HasFlow c (slot_at givers) (suc fuel) name slots slot
+  pub has_port : (port : ℕ) (slots : List Giver) (slot : ℕ) → AreOrdered slots → slice_get slots slot ≡ Some (Port port) → givers name ≡ Port port → (c : RawCircuit) → HasFlow c givers (suc fuel) name slots slot
   has_port port slots slot ordered found is c = record {
     within = slice_get_within slots slot (Port port) found;
-    value = λ texts sources. slot_given c texts sources slots ordered slot (Port port) found ∙ sym (flow_is c texts sources (slot_at givers) fuel name (Port port) is);
+    value = λ texts sources. slot_given c texts sources slots ordered slot (Port port) found ∙ sym (flow_is c texts sources givers fuel name (Port port) is);
   }
 
-  pub has_same : (other : ℕ) (slots : List Giver) (slot : ℕ) → slot_at givers name ≡ Same other → ((c : RawCircuit) → HasFlow c (slot_at givers) fuel other slots slot) → (c : RawCircuit) → HasFlow c (slot_at givers) (suc fuel) name slots slot
+  pub has_same : (other : ℕ) (slots : List Giver) (slot : ℕ) → givers name ≡ Same other → ((c : RawCircuit) → HasFlow c givers fuel other slots slot) → (c : RawCircuit) → HasFlow c givers (suc fuel) name slots slot
   has_same other slots slot is has c = record {
     within = (has c).within;
-    value = λ texts sources. (has c).value texts sources ∙ sym (flow_is c texts sources (slot_at givers) fuel name (Same other) is);
+    value = λ texts sources. (has c).value texts sources ∙ sym (flow_is c texts sources givers fuel name (Same other) is);
   }
 
-  pub has_image : (k other datum : ℕ) (before slots : List Giver) (slot : ℕ) → AreOrdered before → AreMore before slots → slice_get slots slot ≡ Some (Image k datum) → slot_at givers name ≡ Image k other
-      → ((c : RawCircuit) → HasFlow c (slot_at givers) fuel other before datum) → (c : RawCircuit) → HasFlow c (slot_at givers) (suc fuel) name slots slot
+  pub has_image : (k other datum : ℕ) (before slots : List Giver) (slot : ℕ) → AreOrdered before → AreMore before slots → slice_get slots slot ≡ Some (Image k datum) → givers name ≡ Image k other
+      → ((c : RawCircuit) → HasFlow c givers fuel other before datum) → (c : RawCircuit) → HasFlow c givers (suc fuel) name slots slot
   has_image k other datum before slots slot ordered more found is has c = record {
     within = slice_get_within slots slot (Image k datum) found;
     value = λ texts sources.
         slot_given c texts sources slots more.ordered slot (Image k datum) found
         ∙ ap (option_and_then (image_at c texts k)) (kept_value c texts sources before ordered slots more.extends datum (has c).within ∙ (has c).value texts sources)
-        ∙ sym (flow_is c texts sources (slot_at givers) fuel name (Image k other) is);
+        ∙ sym (flow_is c texts sources givers fuel name (Image k other) is);
   }
 
 -- what flows through some givers, by the first of them

@@ -1,20 +1,15 @@
 -- Tables of slots: what they have for names.
-use Rattle.std.proofs.Common.{◌≡◌, ℕ, zero, suc, ◌+◌, ◌-◌, ◌*◌, ◌/◌, ◌%◌, ◌<◌, ◌≤◌, ◌⊎◌, inl, inr, ⊎_elim, List, [], ◌∷◌, ◌++◌, length, map, replicate, slice_get, get_or, set, Option, Some, None, is_some, Bool, true, false, cond, nat_eq, ◌||◌, refl, sym, ap, ◌∙◌, subst, arith, get_or-set_same, get_or-set_other}
-use Rattle.std.specs.List.{range_with_len}
-use Rattle.std.specs.Option.{option_and_then, option_map_or}
-use Rattle.std.proofs.lemmas.Bool.{false≢true, cases_eq, eq-eqb, ne_eqb, or_left, or_right, cases_lt, le-ltb}
+use Rattle.std.proofs.Common.{◌≡◌, ℕ, zero, suc, ◌+◌, ◌*◌, ◌<◌, ◌⊎◌, inl, inr, ⊎_elim, List, [], ◌∷◌, ◌++◌, length, replicate, get_or, set, Option, Some, None, is_some, Bool, true, false, cond, nat_eq, ◌||◌, refl, sym, ap, ◌∙◌, subst, arith, get_or-set_same, get_or-set_other}
+use Rattle.std.specs.Option.{option_and_then}
+use Rattle.std.proofs.lemmas.Bool.{false≢true, cases_eq, eq-eqb, ne_eqb, or_left, or_right}
 use Rattle.std.proofs.lemmas.Option.{same_Some, none-some}
-use Rattle.std.proofs.lemmas.List.FromFn.{length-map-range_with_len, get_or-map-range_with_len}
 use Rattle.reo_net.specs.declared.circuit.RawCircuit.{RawCircuit}
-use Rattle.reo_net.specs.Names.{name_count}
 use Rattle.reo_growth.specs.Lists.{has}
 use Rattle.reo_flow.specs.declared.giver.Giver.{Giver}
-use Rattle.reo_flow.specs.declared.giver.Giver.TheVariants.{Unfed}
-use Rattle.reo_flow.specs.Flow.{Sources, port_giver, end_giver, giver_of, flow, flow_at, data_in}
-use Rattle.reo_flow.proofs.StepLaw.{same_functions}
-use Rattle.reo_plan.specs.inside.Slots.{slot_at, slot_value, AreOrdered, AreMore, HasFlow}
+use Rattle.reo_flow.specs.Flow.{Sources, giver_of, flow, flow_at, data_in}
+use Rattle.reo_plan.specs.inside.Slots.{slot_value, AreOrdered, AreMore, HasFlow}
 use Rattle.reo_plan.specs.inside.Rows.{slot_in, HasSlots}
-use Rattle.reo_plan.proofs.SlotLemmas.{slot_past, kept_value, longer}
+use Rattle.reo_plan.proofs.SlotLemmas.{kept_value, longer}
 
 has-append : (xs ys : List ℕ) (n : ℕ) → has (xs ++ ys) n ≡ (has xs n || has ys n)
 has-append [] ys n = refl
@@ -23,29 +18,6 @@ has-append (x ∷ xs) ys n = go (nat_eq x n) (has-append xs ys n)
     go : (b : Bool) → has (xs ++ ys) n ≡ (has xs n || has ys n) → (b || has (xs ++ ys) n) ≡ ((b || has xs n) || has ys n)
     go true later = refl
     go false later = later
-
-none_past : {A : Type 0} (xs : List A) (i : ℕ) → length xs ≤ i → slice_get xs i ≡ None
-none_past [] i past = refl
-none_past (x ∷ xs) zero past = absurd (omega (arith, past))
-none_past (x ∷ xs) (suc i) past = none_past xs i (omega (arith, past))
-
--- past the last name there is no giver
-no_giver : (c : RawCircuit) (names : List ℕ) (name : ℕ) → name_count c ≤ name → giver_of c names name ≡ Unfed
-no_giver c names name past =
-    let k = (name - length c.ports) / 2 in
-    ap (λ b. cond b (option_map_or (port_giver c names name) (slice_get c.ports name) Unfed) (option_map_or (end_giver c names k (nat_eq ((name - length c.ports) % 2) 0)) (slice_get c.channels k) Unfed)) (le-ltb name (length c.ports) (omega (arith, past)))
-    ∙ ap (λ o. option_map_or (end_giver c names k (nat_eq ((name - length c.ports) % 2) 0)) o Unfed) (none_past c.channels k (omega (arith, past)))
-
--- the list of the names' givers
-pub givers_are : (c : RawCircuit) (names : List ℕ) (givers : List Giver) → givers ≡ map (giver_of c names) (range_with_len 0 (name_count c)) → slot_at givers ≡ giver_of c names
-givers_are c names givers is = same_functions (slot_at givers) (giver_of c names) (λ name. ap (λ l. slot_at l name) is ∙ at name)
-  where
-    at : (name : ℕ) → slot_at (map (giver_of c names) (range_with_len 0 (name_count c))) name ≡ giver_of c names name
-    at name =
-        ⊎_elim
-        (λ within. get_or-map-range_with_len (giver_of c names) 0 (name_count c) name name Unfed within (omega arith))
-        (λ past. slot_past (map (giver_of c names) (range_with_len 0 (name_count c))) name (omega (arith, past, length-map-range_with_len (giver_of c names) 0 (name_count c))) ∙ sym (no_giver c names name past))
-        (cases_lt name (name_count c))
 
 -- at first no name has a slot
 pub no_slots : (c : RawCircuit) (names : List ℕ) (slots : List Giver) (table : List (Option ℕ)) → slots ≡ [] → ((name : ℕ) → slot_in table name ≡ None) → HasSlots c names [] slots table
@@ -57,8 +29,8 @@ no_slots c names slots table none empty = record {
 }
 
 -- then one name more has
-pub more_slots : (c : RawCircuit) (names done : List ℕ) (old new : List Giver) (table : List (Option ℕ)) (givers : List Giver) (name slot : ℕ) → givers ≡ map (giver_of c names) (range_with_len 0 (name_count c))
-    → name < length table → HasSlots c names done old table → AreMore old new → HasFlow c (slot_at givers) (2 * c.nodes + 2) name new slot → HasSlots c names (done ++ name ∷ []) new (set table name (Some slot))
+pub more_slots : (c : RawCircuit) (names done : List ℕ) (old new : List Giver) (table : List (Option ℕ)) (givers : ℕ → Giver) (name slot : ℕ) → givers ≡ giver_of c names
+    → name < length table → HasSlots c names done old table → AreMore old new → HasFlow c givers (2 * c.nodes + 2) name new slot → HasSlots c names (done ++ name ∷ []) new (set table name (Some slot))
 more_slots c names done old new table givers name slot is within has_old more flow_is = record {
   ordered = more.ordered;
   within = λ n s at. at_or n s at (λ same. subst (λ x. x < length new) (sym same) flow_is.within) (λ there. longer old new s more.extends (has_old.within n s there));
@@ -89,7 +61,7 @@ more_slots c names done old new table givers name slot is within has_old more fl
     by_value : (texts : List (List ℕ)) (sources : Sources) (n s : ℕ) → slot_in (set table name (Some slot)) n ≡ Some s → (n ≡ name) ⊎ (n ≡ name → ⊥) → slot_value c texts sources new s ≡ flow_at c texts sources names n
     by_value texts sources n s at (inl same) =
         ap (slot_value c texts sources new) (same_Some s slot (sym at ∙ here n same)) ∙ flow_is.value texts sources
-        ∙ ap (λ g. flow c texts sources g (2 * c.nodes + 2) name) (givers_are c names givers is)
+        ∙ ap (λ g. flow c texts sources g (2 * c.nodes + 2) name) is
         ∙ ap (λ m. flow c texts sources (giver_of c names) m name) (let e : 2 * c.nodes + 2 ≡ suc (2 * c.nodes + 1) = omega arith in e) ∙ ap (flow_at c texts sources names) (sym same)
     by_value texts sources n s at (inr apart) =
         let there = sym (elsewhere n apart) ∙ at in

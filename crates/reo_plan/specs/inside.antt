@@ -1,6 +1,7 @@
 pub mod Ports
 pub mod Cells
 pub mod Slots
+pub mod Givers
 pub mod Rows
 pub mod Plans
 pub mod Sides

@@ -9,7 +9,7 @@ ghost use Rattle.reo_plan.specs.inside.Asks.{is_direct, is_presence, IsSameFact,
 use crate::facts::is_same;
 use crate::marks::mask_of;
 use crate::row::Row;
-use crate::slots::{giver_at, slot_of};
+use crate::slots::{Givers, giver_at, slot_of};
 use reo_flow::{Fact, Giver};
 use sqlite_items::Items;
 use std::alloc::{AllocError, Global};
@@ -106,7 +106,7 @@ fn shared_slot(own: &[Giver], slots: &mut Items<Giver>, slot: u32) -> Result<u32
     if slot == u32::MAX {
         return Err(AllocError);
     }
-    slot_of(own, slots, slot + 1, slot)
+    slot_of(&Givers::Slots(own), slots, slot + 1, slot)
 }
 
 /// The fact with its datum in a shared slot.

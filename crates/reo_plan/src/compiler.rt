@@ -10,9 +10,10 @@ ghost use Rattle.reo_plan.specs.inside.Plans.{AreRows, ArePlans, IsOfNames};
 
 use crate::asks::presence_first;
 use crate::facts::facts_of;
-use crate::givers::givers;
+use crate::givers::incoming_of;
 use crate::places::{cell_slots, named_slots, port_slots, slot_table};
 use crate::row::Row;
+use crate::slots::Givers;
 use reo_cut::CellCut;
 use reo_net::Net;
 use reo_product::{Firing, RegionTable};
@@ -32,7 +33,8 @@ pub(crate) fn row_of(
     requires names { All (λ name. name < name_count net.now) names.now }
     ensures { IfOk result (IsRow net.now names.now) }
 {
-    let givers = givers(alloc, net, numbers, names)?;
+    let incoming = incoming_of(alloc, net, names)?;
+    let givers = Givers::Names(net, numbers, names, incoming.as_slice());
     let mut slots = Items::new(alloc);
     let slot_of = slot_table(alloc, net, &givers, names, &mut slots)?;
     let table = slot_of.as_slice();

@@ -1,7 +1,6 @@
 //! Where the names of a firing have their data from.
-ghost use Rattle.std.specs.Prelude.{◌≡◌, ◌<◌, ◌≤◌, [], ◌∷◌, ◌++◌, length, map, count_by, IfOk, OnOk};
-ghost use Rattle.std.specs.List.{range_with_len};
-ghost use Rattle.reo_net.specs.Names.{name_count, end_a};
+ghost use Rattle.std.specs.Prelude.{◌≡◌, ◌+◌, ◌<◌, if◌then◌else◌, [], ◌∷◌, ◌++◌, length, IfOk, OnOk};
+ghost use Rattle.reo_net.specs.Names.{end_a};
 ghost use Rattle.reo_net.specs.Kind.{is_fifo};
 ghost use Rattle.reo_net.specs.Steps.{cell_of};
 ghost use Rattle.reo_flow.specs.Flow.{input_of, port_giver, b_giver, end_giver, giver_of};
@@ -13,33 +12,28 @@ use reo_value::Way;
 use sqlite_items::at;
 use std::alloc::{AllocError, Global};
 
-// How many of these channels are FIFO1s.
-fn fifos_in(channels: &[Channel]) -> usize
-    ensures count { result ≡ count_by (λ channel. is_fifo channel.kind) channels.now }
-    ensures few { result ≤ length channels.now }
+/// How many FIFO1s there are up to a channel, where so many are before it.
+fn with_channel(before: u32, channel: &Channel) -> u32
+    requires { before < 512 }
+    ensures { result ≡ (if is_fifo channel.now.kind then before + 1 else before) }
 {
-    channels
-        .iter()
-        .filter(|channel| channel.kind.is_fifo())
-        .count()
-}
-
-/// The number of the cell that a channel has, if it is a FIFO1.
-fn cell_of(net: &Net, number: usize) -> u32
-    requires { number < length net.now.channels }
-    ensures { result ≡ cell_of net.now number }
-{
-    fifos_in(&net.channels()[..number]) as u32
+    if channel.kind.is_fifo() {
+        before + 1
+    } else {
+        before
+    }
 }
 
 /// For each channel the number of its cell, if it is a FIFO1.
 pub(crate) fn cell_numbers(alloc: Global, net: &Net) -> Result<Vec<u32>, AllocError>
     ensures { IfOk result (λ cells. cells.items ≡ cell_numbers net.now) }
 {
-    let count = net.channels().len();
-    let mut cells = Vec::with_capacity(alloc, count)?;
-    for number in 0..count {
-        cells.push(cell_of(net, number))?;
+    let channels = net.channels();
+    let mut cells = Vec::with_capacity(alloc, channels.len())?;
+    let mut cell = 0;
+    for channel in channels {
+        cells.push(cell)?;
+        cell = with_channel(cell, channel);
     }
     Ok(cells)
 }
@@ -74,7 +68,11 @@ fn add_incoming(net: &Net, pairs: &mut Vec<(u32, u32)>, name: u32) -> Result<(),
 }
 
 /// The names of a firing that come into nodes, each behind its node.
-fn incoming_of(alloc: Global, net: &Net, names: &[u32]) -> Result<Vec<(u32, u32)>, AllocError>
+pub(crate) fn incoming_of(
+    alloc: Global,
+    net: &Net,
+    names: &[u32],
+) -> Result<Vec<(u32, u32)>, AllocError>
     ensures { IfOk result (λ pairs. pairs.items ≡ incoming_of net.now names.now) }
 {
     let mut pairs = Vec::with_capacity(alloc, names.len())?;
@@ -177,7 +175,13 @@ fn end_giver(
 }
 
 /// Where a name has its datum from.
-fn giver_of(net: &Net, cells: &[u32], names: &[u32], incoming: &[(u32, u32)], name: u32) -> Giver
+pub(crate) fn giver_of(
+    net: &Net,
+    cells: &[u32],
+    names: &[u32],
+    incoming: &[(u32, u32)],
+    name: u32,
+) -> Giver
     requires incoming { incoming.now ≡ incoming_of net.now names.now }
     requires cells { cells.now ≡ cell_numbers net.now }
     ensures { result ≡ giver_of net.now names.now name }
@@ -199,36 +203,4 @@ fn giver_of(net: &Net, cells: &[u32], names: &[u32], incoming: &[(u32, u32)], na
             None => Giver::Unfed,
         }
     }
-}
-
-/// The giver of each name of the circuit, in a firing with these names.
-pub(crate) fn givers(
-    alloc: Global,
-    net: &Net,
-    cells: &[u32],
-    names: &[u32],
-) -> Result<Vec<Giver>, AllocError>
-    requires { cells.now ≡ cell_numbers net.now }
-    ensures { IfOk result (λ givers. givers.items ≡ map (giver_of net.now names.now) (range_with_len 0 (name_count net.now))) }
-{
-    let incoming = incoming_of(alloc, net, names)?;
-    all_givers(alloc, net, cells, names, incoming.as_slice())
-}
-
-fn all_givers(
-    alloc: Global,
-    net: &Net,
-    cells: &[u32],
-    names: &[u32],
-    incoming: &[(u32, u32)],
-) -> Result<Vec<Giver>, AllocError>
-    requires incoming { incoming.now ≡ incoming_of net.now names.now }
-    requires cells { cells.now ≡ cell_numbers net.now }
-    ensures { IfOk result (λ givers. givers.items ≡ map (giver_of net.now names.now) (range_with_len 0 (name_count net.now))) }
-{
-    let mut givers = Vec::with_capacity(alloc, net.names() as usize)?;
-    for name in 0..net.names() {
-        givers.push(giver_of(net, cells, names, incoming, name))?;
-    }
-    Ok(givers)
 }

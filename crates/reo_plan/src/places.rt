@@ -1,14 +1,14 @@
 //! The slots of a firing's data at the places of cells and ports, and at its names.
 ghost use Rattle.std.specs.Prelude.{◌≡◌, ◌<◌, [], ◌++◌, length, map, All, IfOk, OnOk};
-ghost use Rattle.std.specs.List.{range_with_len};
 ghost use Rattle.reo_net.specs.Names.{name_count};
 ghost use Rattle.reo_flow.specs.Flow.{giver_of};
 ghost use Rattle.reo_flow.specs.Places.{placed, value_at_port, buffers, at_cells, at_ports};
 ghost use Rattle.reo_plan.specs.inside.Rows.{HasSlots, slot_in, named_slots};
 ghost use Rattle.reo_plan.specs.inside.Cells.{end_of};
+ghost use Rattle.reo_plan.specs.inside.Givers.{giver_in, AreTold};
 
 use crate::facts::slot_in;
-use crate::slots::slot_of;
+use crate::slots::{Givers, slot_of};
 use reo_cut::CellCut;
 use reo_flow::Giver;
 use reo_net::{Net, Port};
@@ -110,11 +110,12 @@ pub(crate) fn named_slots(
 pub(crate) fn slot_table(
     alloc: Global,
     net: &Net,
-    givers: &[Giver],
+    givers: &Givers<'_>,
     names: &[u32],
     slots: &mut Items<Giver>,
 ) -> Result<Vec<Option<u32>>, AllocError>
-    requires givers { givers.now ≡ map (giver_of net.now names.now) (range_with_len 0 (name_count net.now)) }
+    requires told { AreTold givers.now }
+    requires givers { giver_in givers.now ≡ giver_of net.now names.now }
     requires names { All (λ name. name < name_count net.now) names.now }
     requires none { slots.old ≡ [] }
     ensures { IfOk result (λ table. HasSlots net.now names.now names.now slots.new table.items) }

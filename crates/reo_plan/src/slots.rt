@@ -1,11 +1,22 @@
 //! Slots for the data of a region's firings, which firings share.
 ghost use Rattle.std.specs.Prelude.{◌≡◌, ℕ, ◌<◌, ◌^◌, length, slice_get, Some, IfOk, IfSome, OnOk, IsTrue, ◌↔◌, ◌+◌};
 ghost use Rattle.reo_net.specs.declared.circuit.RawCircuit.{RawCircuit};
+ghost use Rattle.reo_plan.specs.inside.Givers.{giver_in, AreTold};
 ghost use Rattle.reo_plan.specs.inside.Slots.{slot_at, LooksBelow, AreOrdered, AreMore, HasFlow};
 
+use crate::givers::giver_of;
 use reo_flow::Giver;
+use reo_net::Net;
 use sqlite_items::Items;
 use std::alloc::{AllocError, Global};
+
+/// Where data come from: those in slots, or those at a circuit's names, in a firing with these names. A name's giver is found
+/// when it is asked for, by the circuit, the numbers of its cells, the firing's names and those that come into nodes.
+#[derive(Drop)]
+pub(crate) enum Givers<'a> {
+    Slots(&'a [Giver]),
+    Names(&'a Net, &'a [u32], &'a [u32], &'a [(u32, u32)]),
+}
 
 fn same(x: &Giver, y: Giver) -> bool
     ensures { IsTrue result ↔ (x.now ≡ y) }
@@ -42,32 +53,45 @@ fn slot_with(slots: &mut Items<Giver>, giver: Giver) -> Result<u32, AllocError>
     Ok(slot)
 }
 
-pub(crate) fn giver_at(givers: &[Giver], name: u32) -> Giver
-    ensures { result ≡ slot_at givers.now name }
+/// The giver of a slot.
+pub(crate) fn giver_at(slots: &[Giver], slot: u32) -> Giver
+    ensures { result ≡ slot_at slots.now slot }
 {
-    let name = name as usize;
-    if name < givers.len() {
-        givers[name]
+    let slot = slot as usize;
+    if slot < slots.len() {
+        slots[slot]
     } else {
         Giver::Unfed
     }
 }
 
+/// The giver of a slot, or of a name.
+pub(crate) fn giver_in(givers: &Givers<'_>, name: u32) -> Giver
+    requires { AreTold givers.now }
+    ensures { result ≡ giver_in givers.now name }
+{
+    match givers {
+        Givers::Slots(slots) => giver_at(slots, name),
+        Givers::Names(net, cells, names, incoming) => giver_of(net, cells, names, incoming, name),
+    }
+}
+
 /// The slot of what flows to a name through so many givers.
 pub(crate) fn slot_of(
-    givers: &[Giver],
+    givers: &Givers<'_>,
     slots: &mut Items<Giver>,
     fuel: u32,
     name: u32,
 ) -> Result<u32, AllocError>
-    requires { AreOrdered slots.old }
+    requires told { AreTold givers.now }
+    requires ordered { AreOrdered slots.old }
     ensures more { OnOk result (AreMore slots.old slots.new) }
-    ensures flow { IfOk result (λ slot. (c : RawCircuit) → HasFlow c (slot_at givers.now) fuel name slots.new slot) }
+    ensures flow { IfOk result (λ slot. (c : RawCircuit) → HasFlow c (giver_in givers.now) fuel name slots.new slot) }
 {
     if fuel == 0 {
         return slot_with(slots, Giver::Unfed);
     }
-    match giver_at(givers, name) {
+    match giver_in(givers, name) {
         Giver::Unfed => slot_with(slots, Giver::Unfed),
         Giver::Cell(cell) => slot_with(slots, Giver::Cell(cell)),
         Giver::Port(port) => slot_with(slots, Giver::Port(port)),
