@@ -16,3 +16,4 @@ pub mod MarkLemmas
 pub mod AskLemmas
 pub mod IncomingLemmas
 pub mod CellLemmas
+pub mod NamePlaceLemmas

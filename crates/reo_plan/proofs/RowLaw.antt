@@ -8,13 +8,15 @@ use Rattle.reo_net.specs.declared.circuit.RawCircuit.{RawCircuit}
 use Rattle.reo_net.specs.Names.{end_a, end_b}
 use Rattle.reo_net.specs.Stand.{is_put}
 use Rattle.reo_flow.specs.declared.fact.Fact.{Fact}
-use Rattle.reo_flow.specs.Places.{value_at_port, buffers, at_cells, at_ports}
+use Rattle.reo_flow.specs.Places.{value_at_port, buffers, at_ports}
 use Rattle.reo_flow.specs.Flow.{Sources, sources_of, data_in, is_so}
 use Rattle.reo_plan.specs.declared.row.Row.{Row}
-use Rattle.reo_plan.specs.inside.Cells.{end_of}
+use Rattle.reo_plan.specs.inside.Placed.{cell_at, port_at, placed_slots}
+use Rattle.reo_plan.specs.inside.Plans.{IsOfNames}
 use Rattle.reo_plan.specs.inside.Slots.{slot_value}
 use Rattle.reo_plan.specs.inside.Rows.{slot_in, HasSlots, slot_facts, values_at, named_slots, IsRow}
 use Rattle.reo_plan.proofs.PlaceSlotLemmas.{values_with, named_with}
+use Rattle.reo_plan.proofs.NamePlaceLemmas.{cells_placed, ports_placed}
 use Rattle.reo_plan.proofs.TableLemmas.{slot_data}
 use Rattle.reo_plan.proofs.FactLemmas.{facts_allow}
 
@@ -28,17 +30,17 @@ port_with value slot_of data_at same puts p port = go (cond puts (is_put port.wa
 
 pub is_row : (c : RawCircuit) (names : List ℕ) (table : List (Option ℕ)) (row : Row) → HasSlots c names names row.slots table
     → ((p : Fact → Bool) → list_all p row.facts ≡ list_all (λ name. list_all p (slot_facts c table name)) names)
-    → row.takes ≡ at_cells c (λ k. slot_in table (end_of c true k)) → row.fills ≡ at_cells c (λ k. slot_in table (end_of c false k))
-    → row.puts ≡ at_ports c true (slot_in table) → row.gets ≡ at_ports c false (slot_in table) → row.named ≡ named_slots table names → IsRow c names row
-is_row c names table row slots_of facts takes fills puts gets named = record {
+    → IsOfNames c names → row.takes ≡ placed_slots (cell_at c true) table names → row.fills ≡ placed_slots (cell_at c false) table names
+    → row.puts ≡ placed_slots (port_at c true) table names → row.gets ≡ placed_slots (port_at c false) table names → row.named ≡ named_slots table names → IsRow c names row
+is_row c names table row slots_of facts of takes fills puts gets named = record {
   ordered = slots_of.ordered;
   facts = λ texts reading. facts (is_so c texts reading (slot_value c texts (sources_of reading) row.slots)) ∙ facts_allow c names row.slots table slots_of texts reading;
-  takes = λ texts sources. ap (values_at (slot_value c texts sources row.slots)) takes
+  takes = λ texts sources. ap (values_at (slot_value c texts sources row.slots)) (takes ∙ cells_placed c table names of.rising of.below slots_of.named true)
       ∙ values_with (slot_value c texts sources row.slots) (λ cell k. slot_in table (end_b c k)) (λ cell k. data_in c texts sources names (end_b c k)) (λ i k. slot_data c names row.slots table slots_of texts sources (end_b c k)) 0 (buffers c);
-  fills = λ texts sources. ap (values_at (slot_value c texts sources row.slots)) fills
+  fills = λ texts sources. ap (values_at (slot_value c texts sources row.slots)) (fills ∙ cells_placed c table names of.rising of.below slots_of.named false)
       ∙ values_with (slot_value c texts sources row.slots) (λ cell k. slot_in table (end_a c k)) (λ cell k. data_in c texts sources names (end_a c k)) (λ i k. slot_data c names row.slots table slots_of texts sources (end_a c k)) 0 (buffers c);
-  puts = λ texts sources. ap (values_at (slot_value c texts sources row.slots)) puts ∙ ported texts sources true;
-  gets = λ texts sources. ap (values_at (slot_value c texts sources row.slots)) gets ∙ ported texts sources false;
+  puts = λ texts sources. ap (values_at (slot_value c texts sources row.slots)) (puts ∙ ports_placed c table names of.rising of.below slots_of.named true) ∙ ported texts sources true;
+  gets = λ texts sources. ap (values_at (slot_value c texts sources row.slots)) (gets ∙ ports_placed c table names of.rising of.below slots_of.named false) ∙ ported texts sources false;
   named = λ texts sources. ap (values_at (slot_value c texts sources row.slots)) named
       ∙ named_with (slot_value c texts sources row.slots) table (data_in c texts sources names) (slot_data c names row.slots table slots_of texts sources) names;
 }

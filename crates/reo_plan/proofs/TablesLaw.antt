@@ -19,13 +19,16 @@ module _ (c : RawCircuit) (tables : List RegionTable) (are : AreTables c (map fi
   table_found k d within =
       slice_get-get_or (map firings_in tables) k [] (subst (λ n. k < n) (sym (length-map tables firings_in)) within) ∙ ap Some (get_or-map firings_in tables k d [] within)
 
-  pub tables_names : All (λ table. All (IsOfNames c) table.firings) tables
-  tables_names = λ k d within i e inside j f below.
+  pub tables_names : All (λ table. All (λ firing. IsOfNames c firing.names) table.firings) tables
+  tables_names = λ k d within i e inside.
       let firings = (get_or tables k d).firings in
       let names = (get_or firings i e).names in
       let found = slice_get-get_or (map names_in firings) i [] (subst (λ n. i < n) (sym (length-map firings names_in)) inside) ∙ ap Some (get_or-map names_in firings i e [] inside) in
       let tabled = firing_of_table c (map firings_in tables) are k i (firings_in (get_or tables k d)) names (table_found k d within) found in
-      firing_below c tabled.root (has names) tabled.firing.connected (get_or names j f) (has_among names (get_or names j f) (among_at names j f below))
+      record {
+        below = λ j f below. firing_below c tabled.root (has names) tabled.firing.connected (get_or names j f) (has_among names (get_or names j f) (among_at names j f below));
+        rising = tabled.firing.rising;
+      }
 
   pub tables_small : All (λ table. length table.firings ≤ 4096) tables
   tables_small = λ k d within.

@@ -3,6 +3,7 @@ pub mod Cells
 pub mod Slots
 pub mod Givers
 pub mod Rows
+pub mod Placed
 pub mod Plans
 pub mod Sides
 pub mod Back

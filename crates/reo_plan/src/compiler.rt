@@ -1,6 +1,5 @@
 //! The rows of all firings.
-ghost use Rattle.std.specs.Prelude.{◌≡◌, ◌<◌, ◌≤◌, length, map, All, IfOk};
-ghost use Rattle.reo_net.specs.Names.{name_count};
+ghost use Rattle.std.specs.Prelude.{◌≡◌, ◌≤◌, length, map, All, IfOk};
 ghost use Rattle.reo_flow.specs.Places.{buffers};
 ghost use Rattle.reo_plan.specs.inside.Cells.{cell_numbers};
 ghost use Rattle.reo_product.specs.Table.{names_in};
@@ -25,12 +24,10 @@ pub(crate) fn row_of(
     alloc: Global,
     net: &Net,
     numbers: &[u32],
-    cells: &[CellCut],
     names: &[u32],
 ) -> Result<Row, AllocError>
     requires numbers { numbers.now ≡ cell_numbers net.now }
-    requires cells { map (λ cell. cell.channel) cells.now ≡ buffers net.now }
-    requires names { All (λ name. name < name_count net.now) names.now }
+    requires names { IsOfNames net.now names.now }
     ensures { IfOk result (IsRow net.now names.now) }
 {
     let incoming = incoming_of(alloc, net, names)?;
@@ -40,10 +37,10 @@ pub(crate) fn row_of(
     let table = slot_of.as_slice();
     let asked = facts_of(alloc, net, numbers, table, names)?;
     let facts = presence_first(alloc, slots.as_slice(), asked.as_slice())?;
-    let takes = cell_slots(alloc, net, cells, table, true)?;
-    let fills = cell_slots(alloc, net, cells, table, false)?;
-    let puts = port_slots(alloc, net, table, true)?;
-    let gets = port_slots(alloc, net, table, false)?;
+    let takes = cell_slots(alloc, net, numbers, table, names, true)?;
+    let fills = cell_slots(alloc, net, numbers, table, names, false)?;
+    let puts = port_slots(alloc, net, table, names, true)?;
+    let gets = port_slots(alloc, net, table, names, false)?;
     let named = named_slots(alloc, table, names)?;
     Ok(Row {
         slots,
@@ -61,17 +58,15 @@ fn rows_of(
     alloc: Global,
     net: &Net,
     numbers: &[u32],
-    cells: &[CellCut],
     firings: &[Firing],
 ) -> Result<Items<Row>, AllocError>
     requires numbers { numbers.now ≡ cell_numbers net.now }
-    requires cells { map (λ cell. cell.channel) cells.now ≡ buffers net.now }
-    requires names { All (IsOfNames net.now) firings.now }
+    requires names { All (λ firing. IsOfNames net.now firing.names) firings.now }
     ensures { IfOk result (AreRows net.now (map names_in firings.now)) }
 {
     let mut rows = Items::new(alloc);
     for firing in firings {
-        let row = row_of(alloc, net, numbers, cells, firing.names.as_slice())?;
+        let row = row_of(alloc, net, numbers, firing.names.as_slice())?;
         rows.push(row)?;
     }
     Ok(rows)
@@ -87,13 +82,14 @@ pub(crate) fn plans_of(
 ) -> Result<Items<Items<Row>>, AllocError>
     requires numbers { numbers.now ≡ cell_numbers net.now }
     requires cells { map (λ cell. cell.channel) cells.now ≡ buffers net.now }
-    requires names { All (λ table. All (IsOfNames net.now) table.firings) tables.now }
+    requires names { All (λ table. All (λ firing. IsOfNames net.now firing.names) table.firings) tables.now }
     requires small { All (λ table. length table.firings ≤ 4096) tables.now }
     ensures { IfOk result (ArePlans net.now (map firings_in tables.now)) }
 {
+    let _ = cells;
     let mut plans = Items::new(alloc);
     for table in tables {
-        let rows = rows_of(alloc, net, numbers, cells, table.firings.as_slice())?;
+        let rows = rows_of(alloc, net, numbers, table.firings.as_slice())?;
         plans.push(rows)?;
     }
     Ok(plans)

@@ -1,92 +1,133 @@
 //! The slots of a firing's data at the places of cells and ports, and at its names.
-ghost use Rattle.std.specs.Prelude.{◌≡◌, ◌<◌, [], ◌++◌, length, map, All, IfOk, OnOk};
+ghost use Rattle.std.specs.Prelude.{◌≡◌, ◌<◌, [], ◌++◌, length, All, IfOk, OnOk};
+ghost use Rattle.std.specs.List.{cons_option};
 ghost use Rattle.reo_net.specs.Names.{name_count};
 ghost use Rattle.reo_flow.specs.Flow.{giver_of};
-ghost use Rattle.reo_flow.specs.Places.{placed, value_at_port, buffers, at_cells, at_ports};
-ghost use Rattle.reo_plan.specs.inside.Rows.{HasSlots, slot_in, named_slots};
-ghost use Rattle.reo_plan.specs.inside.Cells.{end_of};
+ghost use Rattle.reo_plan.specs.inside.Rows.{HasSlots, named_slots};
+ghost use Rattle.reo_plan.specs.inside.Cells.{cell_numbers};
+ghost use Rattle.reo_plan.specs.inside.Placed.{cell_in, cell_at, port_in, port_at, slot_at_place, placed_slots};
 ghost use Rattle.reo_plan.specs.inside.Givers.{giver_in, AreTold};
 
 use crate::facts::slot_in;
+use crate::givers::cell_number;
 use crate::slots::{Givers, slot_of};
-use reo_cut::CellCut;
 use reo_flow::Giver;
-use reo_net::{Net, Port};
+use reo_net::{Channel, Net, Port};
 use reo_value::Way;
-use sqlite_items::Items;
+use sqlite_items::{Items, at};
 use std::alloc::{AllocError, Global};
 
-/// The name of end a or end b of a channel.
-fn end_of(net: &Net, at_b: bool, number: u32) -> u32
-    requires { number < length net.now.channels }
-    ensures { result ≡ end_of net.now at_b number }
-{
-    let end_a = net.ports().len() as u32 + 2 * number;
-    if at_b { end_a + 1 } else { end_a }
-}
-
-/// Adds a place with a slot, where there is one.
+/// Adds a place with a slot, where there are both.
 fn add_place(
     places: &mut Items<(u32, u32)>,
-    place: u32,
+    place: Option<u32>,
     slot: Option<u32>,
 ) -> Result<(), AllocError>
-    ensures { OnOk result (places.new ≡ places.old ++ placed place slot []) }
+    ensures { OnOk result (places.new ≡ places.old ++ cons_option (slot_at_place place slot) []) }
 {
-    match slot {
-        Some(slot) => places.push((place, slot)),
+    match place {
+        Some(place) => match slot {
+            Some(slot) => places.push((place, slot)),
+            None => Ok(()),
+        },
         None => Ok(()),
     }
 }
 
-/// The cells with the slots of the ends a, or the ends b, of their channels.
-pub(crate) fn cell_slots(
-    alloc: Global,
+fn cell_in(
     net: &Net,
-    cells: &[CellCut],
-    table: &[Option<u32>],
+    numbers: &[u32],
     at_b: bool,
-) -> Result<Items<(u32, u32)>, AllocError>
-    requires cells { map (λ cell. cell.channel) cells.now ≡ buffers net.now }
-    ensures { IfOk result (λ places. places ≡ at_cells net.now (λ k. slot_in table.now (end_of net.now at_b k))) }
+    number: u32,
+    is_a: bool,
+    channel: &Channel,
+) -> Option<u32>
+    requires found { number < length net.now.channels }
+    requires cells { numbers.now ≡ cell_numbers net.now }
+    ensures { result ≡ cell_in net.now at_b number is_a channel.now }
 {
-    let _channels = net.channels();
-    let mut places = Items::new(alloc);
-    for cell in 0..cells.len() {
-        let end = end_of(net, at_b, cells[cell].channel);
-        add_place(&mut places, cell as u32, slot_in(table, end))?;
-    }
-    Ok(places)
-}
-
-fn slot_at_port(table: &[Option<u32>], puts: bool, number: u32, port: &Port) -> Option<u32>
-    ensures { result ≡ value_at_port puts (slot_in table.now) number port.now }
-{
-    let is_put = match port.way {
-        Way::Put => true,
-        Way::Get => false,
-    };
-    if is_put == puts {
-        slot_in(table, number)
+    if is_a != at_b && channel.kind.is_fifo() {
+        Some(cell_number(net, numbers, number))
     } else {
         None
     }
 }
 
-/// The put ports, or the get ports, with their slots.
+/// The cell at whose end b, or end a, a name is.
+fn cell_at(net: &Net, numbers: &[u32], at_b: bool, name: u32) -> Option<u32>
+    requires { numbers.now ≡ cell_numbers net.now }
+    ensures { result ≡ cell_at net.now at_b name }
+{
+    let ports = net.ports().len();
+    let name = name as usize;
+    if name < ports {
+        None
+    } else {
+        let number = (name - ports) / 2;
+        match at(net.channels(), number) {
+            Some(channel) => {
+                let is_a = (name - ports) % 2 == 0;
+                cell_in(net, numbers, at_b, number as u32, is_a, channel)
+            }
+            None => None,
+        }
+    }
+}
+
+/// The cells at whose ends b, or ends a, names are, with the slots of the names.
+pub(crate) fn cell_slots(
+    alloc: Global,
+    net: &Net,
+    numbers: &[u32],
+    table: &[Option<u32>],
+    names: &[u32],
+    at_b: bool,
+) -> Result<Items<(u32, u32)>, AllocError>
+    requires { numbers.now ≡ cell_numbers net.now }
+    ensures { IfOk result (λ places. places ≡ placed_slots (cell_at net.now at_b) table.now names.now) }
+{
+    let mut places = Items::new(alloc);
+    for name in names {
+        let cell = cell_at(net, numbers, at_b, *name);
+        add_place(&mut places, cell, slot_in(table, *name))?;
+    }
+    Ok(places)
+}
+
+fn port_in(puts: bool, number: u32, port: &Port) -> Option<u32>
+    ensures { result ≡ port_in puts number port.now }
+{
+    let is_put = match port.way {
+        Way::Put => true,
+        Way::Get => false,
+    };
+    if is_put == puts { Some(number) } else { None }
+}
+
+/// The put port, or the get port, that a name is.
+fn port_at(net: &Net, puts: bool, name: u32) -> Option<u32>
+    ensures { result ≡ port_at net.now puts name }
+{
+    match at(net.ports(), name as usize) {
+        Some(port) => port_in(puts, name, port),
+        None => None,
+    }
+}
+
+/// The put ports, or the get ports, among names, with their slots.
 pub(crate) fn port_slots(
     alloc: Global,
     net: &Net,
     table: &[Option<u32>],
+    names: &[u32],
     puts: bool,
 ) -> Result<Items<(u32, u32)>, AllocError>
-    ensures { IfOk result (λ places. places ≡ at_ports net.now puts (slot_in table.now)) }
+    ensures { IfOk result (λ places. places ≡ placed_slots (port_at net.now puts) table.now names.now) }
 {
-    let ports = net.ports();
     let mut places = Items::new(alloc);
-    for port in 0..ports.len() {
-        let slot = slot_at_port(table, puts, port as u32, &ports[port]);
-        add_place(&mut places, port as u32, slot)?;
+    for name in names {
+        let port = port_at(net, puts, *name);
+        add_place(&mut places, port, slot_in(table, *name))?;
     }
     Ok(places)
 }
@@ -101,7 +142,7 @@ pub(crate) fn named_slots(
 {
     let mut named = Items::new(alloc);
     for name in names {
-        add_place(&mut named, *name, slot_in(table, *name))?;
+        add_place(&mut named, Some(*name), slot_in(table, *name))?;
     }
     Ok(named)
 }

@@ -1,12 +1,12 @@
 -- The rows of all regions, each of the firing at its place in the table.
 use Rattle.std.specs.Prelude.{ℕ, ◌<◌, ◌≤◌, List, [], ◌∷◌, length, All, Bool}
 use Rattle.std.specs.List.{list_all}
+use Rattle.std.specs.List.Sorted.{IsStrictlyIncreasing}
 use Rattle.reo_fabric.specs.declared.reading.Reading.{Reading}
 use Rattle.reo_flow.specs.Flow.{sources_of, is_so}
 use Rattle.reo_plan.specs.inside.Slots.{slot_value}
 use Rattle.reo_net.specs.declared.circuit.RawCircuit.{RawCircuit}
 use Rattle.reo_net.specs.Names.{name_count}
-use Rattle.reo_product.specs.declared.table.Firing.{Firing}
 use Rattle.reo_flow.specs.Allows.{Table}
 use Rattle.reo_plan.specs.declared.row.Row.{Row}
 use Rattle.reo_plan.specs.inside.Rows.{IsRow}
@@ -23,9 +23,10 @@ ArePlans c (table ∷ tables) (rows ∷ plans) = (length table ≤ 4096) × AreR
 ArePlans c [] (rows ∷ plans) = ⊥
 ArePlans c (table ∷ tables) [] = ⊥
 
--- the firing's names are the circuit's
-abbrev pub IsOfNames : RawCircuit → Firing → Type 0
-IsOfNames c firing = All (λ name. name < name_count c) firing.names
+-- the names are the circuit's, and rise
+pub record IsOfNames (c : RawCircuit) (names : List ℕ) : Type 0 where
+  pub below : All (λ name. name < name_count c) names
+  pub rising : IsStrictlyIncreasing names
 
 -- whether all that the row asks is so
 abbrev pub fits : RawCircuit → List (List ℕ) → Reading → Row → Bool

@@ -1,9 +1,11 @@
-use Rattle.std.proofs.Common.{◌≤◌, ◌+◌, Some, length, map, take, sym, ap, ◌∙◌, subst, arith}
+use Rattle.std.proofs.Common.{◌≤◌, ◌+◌, Some, All, length, map, take, sym, ap, ◌∙◌, subst, arith}
 use Rattle.std.proofs.lemmas.List.{length-map}
 use Rattle.std.proofs.lemmas.Option.{slice_get-get_or}
+use Rattle.reo_product.specs.declared.table.Firing.{Firing}
+use Rattle.reo_product.specs.declared.table.RegionTable.{RegionTable}
 use Rattle.reo_product.specs.Table.{names_in}
 use Rattle.reo_plan.specs.Plan.{firings_in}
-use Rattle.reo_plan.specs.inside.Plans.{AreRows, ArePlans}
+use Rattle.reo_plan.specs.inside.Plans.{AreRows, ArePlans, IsOfNames}
 use Rattle.reo_plan.proofs.PlanLemmas.{plans_more}
 use Rattle.reo_plan.proofs.compiler.plans_of.Goals as goal
 
@@ -17,3 +19,9 @@ loop-table-preserved c =
     (plans_more c.args.net.now tables n table c.loop-table.plans c.in_ok-rows.rows (slice_get-get_or tables n table (omega arith) ∙ ap Some (sym c.table-item.is)) c.loop-table.invariant
     (omega (arith, small, length-map table.firings names_in))
     (subst (λ fs. AreRows c.args.net.now (map names_in fs) c.in_ok-rows.rows) c.as_slice.ensures c.in_ok-rows.ensures))
+
+pub rows_of-requires-clause-names : goal.rows_of-requires-clause-names
+rows_of-requires-clause-names c =
+    let table = c.table-item.result in
+    subst (All (λ firing. IsOfNames c.args.net.now firing.names)) (sym c.as_slice.ensures)
+    (subst (λ (t : RegionTable). All (λ (firing : Firing). IsOfNames c.args.net.now firing.names) t.firings) (sym c.table-item.is) (c.requires.names c.loop-table.table-index table (omega arith)))

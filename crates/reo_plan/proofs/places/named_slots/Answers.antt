@@ -1,8 +1,10 @@
-use Rattle.std.proofs.Common.{[], ◌++◌, take, get_or, ap, sym, ◌∙◌, arith}
+use Rattle.std.proofs.Common.{[], ◌++◌, take, get_or, Some, ap, sym, ◌∙◌, arith}
+use Rattle.std.specs.List.{cons_option}
+use Rattle.std.specs.Option.{option_map}
 use Rattle.std.proofs.lemmas.Option.{slice_get-get_or}
-use Rattle.reo_flow.specs.Places.{placed}
-use Rattle.reo_plan.specs.inside.Rows.{named_slots}
-use Rattle.reo_plan.proofs.PlaceSlotLemmas.{named_slots-more}
+use Rattle.reo_plan.specs.inside.Placed.{slot_at_place}
+use Rattle.reo_plan.specs.inside.Rows.{slot_in, named_slots}
+use Rattle.reo_plan.proofs.NamePlaceLemmas.{mapped_more}
 use Rattle.reo_plan.proofs.places.named_slots.Goals as goal
 
 pub loop-name-preserved : goal.loop-name-preserved
@@ -11,6 +13,6 @@ loop-name-preserved c =
     let names = c.args.names.now in
     let n = c.loop-name.name-index in
     let name = get_or names n 0 in
-    c.in_ok-add_place.ensures ∙ ap (λ l. l ++ placed name c.slot_in.result []) c.loop-name.invariant
-    ∙ ap (λ o. named_slots table (take n names) ++ placed name o []) c.slot_in.ensures
-    ∙ sym (named_slots-more table names n name (slice_get-get_or names n 0 (omega arith)))
+    c.in_ok-add_place.ensures ∙ ap (λ l. l ++ cons_option (slot_at_place (Some name) c.slot_in.result) []) c.loop-name.invariant
+    ∙ ap (λ s. named_slots table (take n names) ++ cons_option (slot_at_place (Some name) s) []) c.slot_in.ensures
+    ∙ sym (mapped_more (λ m. option_map (λ slot. (m, slot)) (slot_in table m)) names n name (slice_get-get_or names n 0 (omega arith)))

@@ -1,7 +1,6 @@
 use Rattle.std.proofs.Common.{◌≡◌, take}
-use Rattle.reo_flow.specs.Places.{places_with, value_at_port}
-use Rattle.reo_plan.specs.inside.Rows.{slot_in}
+use Rattle.reo_plan.specs.inside.Placed.{port_at, placed_slots}
 use Rattle.reo_plan.proofs.places.port_slots.Given as goal
 
-abbrev pub invariant-loop-port : goal.invariant-loop-port
-invariant-loop-port l = l.places ≡ places_with (value_at_port l.puts (slot_in l.table)) 0 (take l.port l.net.ports)
+abbrev pub invariant-loop-name : goal.invariant-loop-name
+invariant-loop-name l = l.places ≡ placed_slots (port_at l.net l.puts) l.table (take l.name-index l.names)
