@@ -5,7 +5,7 @@ ghost use Rattle.reo_trace.specs.Calls.{IsFront};
 ghost use Rattle.reo_trace.specs.ReportText.{op_text, call_line, call_lines};
 
 use crate::Called;
-use crate::lines::{bytes_at, push_bytes, push_datum, push_node};
+use crate::lines::{append, bytes_at, push_bytes, push_datum, push_node};
 use crate::numbers::push_place;
 use crate::shown::Shown;
 use reo_net::Net;
@@ -101,7 +101,7 @@ fn push_call(
     ensures line { OnOk result (HasTaken buffer.old buffer.new (call_line net.now nodes.now texts.now person.now call.now)) }
 {
     turn_to_op(front, net, nodes, person, call.op)?;
-    push_bytes(buffer, front.bytes.as_slice())?;
+    append(buffer, front.bytes.as_slice())?;
     push_datum(buffer, texts, shown, call.value)?;
     push_place(buffer, call.number)
 }

@@ -4,7 +4,7 @@ ghost use Rattle.reo_net.specs.Names.{name_count};
 ghost use Rattle.reo_trace.specs.Buffer.{Takes};
 ghost use Rattle.reo_trace.specs.Fronts.{AreFronts, front_text, fronts_below};
 
-use crate::lines::{push_bytes, push_name};
+use crate::lines::{append, push_bytes, push_name};
 use reo_net::Net;
 use reo_value::Lexicon;
 use std::alloc::{AllocError, Global};
@@ -61,6 +61,7 @@ fn place_of(net: &Net, nodes: &Lexicon, fronts: &Fronts, name: u32) -> Place
 }
 
 /// Appends the front of a name, at once where it is made.
+#[inline(always)]
 pub(crate) fn push_front_of(
     buffer: &mut Vec<u8>,
     net: &Net,
@@ -75,5 +76,5 @@ pub(crate) fn push_front_of(
         return push_front(buffer, net, nodes, name);
     }
     let place = place_of(net, nodes, fronts, name);
-    push_bytes(buffer, &fronts.bytes.as_slice()[place.from..place.to])
+    append(buffer, &fronts.bytes.as_slice()[place.from..place.to])
 }

@@ -1,5 +1,5 @@
 //! The lines of a report's text, each made in a buffer.
-ghost use Rattle.std.specs.Prelude.{◌≡◌, decimal, flat_map, slice_get, Some};
+ghost use Rattle.std.specs.Prelude.{◌≡◌, [], ◌∷◌, decimal, flat_map, slice_get, Some};
 ghost use Rattle.std.specs.Fmt.{signed_decimal};
 ghost use Rattle.std.specs.List.{list_all};
 ghost use Rattle.reo_value.specs.Lexicon.{text_at};
@@ -31,7 +31,24 @@ pub fn bytes_at(texts: &Lexicon, number: usize) -> &[u8]
 pub fn push_bytes(buffer: &mut Vec<u8>, bytes: &[u8]) -> Result<(), AllocError>
     ensures { Takes buffer.old buffer.new result bytes.now }
 {
+    append(buffer, bytes)
+}
+
+/// Appends bytes to a buffer, where lines are made: a call would cost as much as the copy.
+#[inline(always)]
+pub(crate) fn append(buffer: &mut Vec<u8>, bytes: &[u8]) -> Result<(), AllocError>
+    ensures { Takes buffer.old buffer.new result bytes.now }
+{
     buffer.extend_from_slice(bytes)
+}
+
+/// Appends one byte, with less ado.
+#[inline(always)]
+pub(crate) fn push_byte(buffer: &mut Vec<u8>, byte: u8) -> Result<(), AllocError>
+    ensures { Takes buffer.old buffer.new result (byte ∷ []) }
+{
+    buffer.push(byte)?;
+    Ok(())
 }
 
 /// Appends a number in decimal.
@@ -168,6 +185,7 @@ pub fn push_name(
 }
 
 /// Appends a value in a line: mostly that of the line before.
+#[inline(always)]
 pub(crate) fn push_datum(
     buffer: &mut Vec<u8>,
     texts: &Lexicon,
@@ -182,6 +200,7 @@ pub(crate) fn push_datum(
     }
 }
 
+#[inline(always)]
 fn push_pair(
     buffer: &mut Vec<u8>,
     net: &Net,
@@ -231,7 +250,7 @@ pub(crate) fn push_step(
 {
     push_step_number(buffer, number)?;
     push_pairs(buffer, net, nodes, texts, fronts, shown, pairs)?;
-    push_bytes(buffer, b"\n")
+    push_byte(buffer, b'\n')
 }
 
 pub(crate) fn push_ending(buffer: &mut Vec<u8>, ending: Ending) -> Result<(), AllocError>

@@ -2,7 +2,7 @@
 ghost use Rattle.std.specs.Prelude.{◌≡◌, ◌+◌, ◌<◌, ◌≤◌, ◌∷◌, ◌++◌, drop, codes, decimal};
 ghost use Rattle.reo_trace.specs.Buffer.{Takes};
 
-use crate::lines::push_bytes;
+use crate::lines::append;
 use itoa::write_digits;
 use std::alloc::AllocError;
 
@@ -26,7 +26,7 @@ pub(crate) fn push_place(buffer: &mut Vec<u8>, number: u64) -> Result<(), AllocE
     let third = put_before(&mut made, last, b't');
     let second = put_before(&mut made, third, b'a');
     let first = put_before(&mut made, second, b' ');
-    push_bytes(buffer, &made[first..])
+    append(buffer, &made[first..])
 }
 
 /// Appends a step's number, with the word before it.
@@ -40,5 +40,5 @@ pub(crate) fn push_step_number(buffer: &mut Vec<u8>, number: u64) -> Result<(), 
     let third = put_before(&mut made, fourth, b'e');
     let second = put_before(&mut made, third, b't');
     let first = put_before(&mut made, second, b's');
-    push_bytes(buffer, &made[first..])
+    append(buffer, &made[first..])
 }

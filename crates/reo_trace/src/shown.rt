@@ -3,7 +3,7 @@ ghost use Rattle.std.specs.Prelude.{◌≡◌};
 ghost use Rattle.std.specs.Fmt.{signed_decimal};
 ghost use Rattle.reo_trace.specs.Buffer.{Takes};
 
-use crate::lines::push_bytes;
+use crate::lines::{append, push_byte};
 use itoa::Integer;
 use std::alloc::AllocError;
 use std::marker::Model;
@@ -49,14 +49,19 @@ impl Shown {
         }
     }
 
+    #[inline(always)]
     fn append(&self, buffer: &mut Vec<u8>) -> Result<(), AllocError>
         ensures { Takes buffer.old buffer.new result (signed_decimal self.now) }
     {
-        push_bytes(buffer, &self.bytes[self.start..])
+        if self.start == 39 {
+            return push_byte(buffer, self.bytes[39]);
+        }
+        append(buffer, &self.bytes[self.start..])
     }
 }
 
 /// Appends a number in decimal, with its sign where it is negative.
+#[inline(always)]
 pub(crate) fn push_shown(
     buffer: &mut Vec<u8>,
     shown: &mut Shown,

@@ -10,7 +10,7 @@ returns-clause-line c =
     let front = codes "call " ++ c.args.person.now ++ op_text c.args.net.now c.args.nodes.now call.op ++ codes " " in
     let valued = front ++ value_text c.args.texts.now call.value in
     let same = sym (append_assoc valued (codes " at " ++ decimal call.number) (codes "\n")) ∙ ap (λ l. l ++ codes "\n") (sym (append_assoc valued (codes " at ") (decimal call.number))) in
-    let first = subst (λ l. HasTaken c.args.buffer.now c.push_bytes.new.buffer l) (c.as_slice.ensures.value ∙ c.in_ok-turn_to_op.ensures.bytes) c.in_ok-push_bytes.ensures in
+    let first = subst (λ l. HasTaken c.args.buffer.now c.append.new.buffer l) (c.as_slice.ensures.value ∙ c.in_ok-turn_to_op.ensures.bytes) c.in_ok-append.ensures in
     Takes-taken _ _ _ _
     (subst (λ l. Takes c.args.buffer.now c.push_place.new.buffer c.push_place.result l) same
     (Takes-trans _ _ _ _ _ _ (HasTaken-trans _ _ _ front _ first c.in_ok-push_datum.ensures) c.push_place.ensures))

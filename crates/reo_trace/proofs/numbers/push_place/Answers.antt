@@ -34,4 +34,4 @@ returns c =
     let text =
     whole ∙ first.ensures.made ∙ ap (λ l. 32 ∷ l) (c.put_before-second.ensures.made ∙ ap (λ l. 97 ∷ l) (c.put_before-third.ensures.made ∙ ap (λ l. 116 ∷ l)
     (c.put_before-last.ensures.made ∙ ap (λ l. 32 ∷ l) (c.write_digits-digits.ensures.written ∙ ap (λ l. decimal c.args.number ++ l) (drop-replicate 31 32 10))))) in
-    subst (λ l. Takes c.args.buffer.now c.push_bytes.new.buffer c.push_bytes.result l) text c.push_bytes.ensures
+    subst (λ l. Takes c.args.buffer.now c.append.new.buffer c.append.result l) text c.append.ensures

@@ -40,4 +40,4 @@ returns c =
     whole ∙ first.ensures.made ∙ ap (λ l. 115 ∷ l) (c.put_before-second.ensures.made ∙ ap (λ l. 116 ∷ l) (c.put_before-third.ensures.made ∙ ap (λ l. 101 ∷ l)
     (c.put_before-fourth.ensures.made ∙ ap (λ l. 112 ∷ l) (c.put_before-last.ensures.made ∙ ap (λ l. 32 ∷ l)
     (c.write_digits-digits.ensures.written ∙ ap (λ l. decimal c.args.number ++ l) (drop-replicate 32 32 0) ∙ append-nil (decimal c.args.number)))))) in
-    subst (λ l. Takes c.args.buffer.now c.push_bytes.new.buffer c.push_bytes.result l) text c.push_bytes.ensures
+    subst (λ l. Takes c.args.buffer.now c.append.new.buffer c.append.result l) text c.append.ensures
