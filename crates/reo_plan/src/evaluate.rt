@@ -127,6 +127,7 @@ fn flow<S: Sources>(
 }
 
 /// What is in a slot. Most slots have what comes out of a cell or is offered at a port.
+#[inline(always)]
 pub(crate) fn slot_value<S: Sources>(
     net: &Net,
     texts: &Lexicon,
@@ -153,6 +154,7 @@ fn is_met_in(net: &Net, texts: &Lexicon, number: u32, datum: Option<Value>, want
 }
 
 /// Whether a fact is so.
+#[inline(always)]
 pub(crate) fn is_so(
     net: &Net,
     texts: &Lexicon,

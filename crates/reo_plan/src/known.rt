@@ -17,6 +17,7 @@ pub(crate) struct Known {
 }
 
 /// A slot with what is in it.
+#[inline(always)]
 pub(crate) fn known_at<S: Sources>(
     net: &Net,
     texts: &Lexicon,
@@ -34,6 +35,7 @@ pub(crate) fn known_at<S: Sources>(
 }
 
 /// Goes to a slot, of which the value is found anew only where it is another one.
+#[inline(always)]
 pub(crate) fn turn_to<S: Sources>(
     known: &mut Known,
     net: &Net,

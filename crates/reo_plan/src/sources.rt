@@ -55,12 +55,14 @@ impl<'a> Sources for EntryRef<'a> {
     }
 }
 
+#[inline(always)]
 fn decoded(word: u64) -> Option<Value>
     ensures { result ≡ decoded word }
 {
     value_of(word)
 }
 
+#[inline(always)]
 pub(crate) fn cell_word(cells: &[(u32, u64)], cell: u32) -> Option<u64>
     ensures { result ≡ at_place cells.now cell }
 {
@@ -72,6 +74,7 @@ pub(crate) fn cell_word(cells: &[(u32, u64)], cell: u32) -> Option<u64>
     None
 }
 
+#[inline(always)]
 pub(crate) fn port_words(ports: &[(u32, u64, u64)], port: u32) -> Option<(u64, u64)>
     ensures { result ≡ at_place (map (λ p. (p.0, (p.1, p.2))) ports.now) port }
 {
@@ -99,6 +102,7 @@ pub(crate) fn known(value: &Value) -> Value
 }
 
 /// The value at a place.
+#[inline(always)]
 fn value_at(places: &[(u32, Value)], place: u32) -> Option<Value>
     ensures found { result ≡ at_place places.now place }
     ensures value { IfSome result IsValue }

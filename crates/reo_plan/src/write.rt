@@ -24,6 +24,7 @@ pub(crate) enum Side {
 }
 
 /// Adds a place with its value, where there is one.
+#[inline(always)]
 fn add(room: &mut Room, side: Side, place: u32, value: Option<Value>)
     requires { used room.old side + length (one_place place value) ≤ most room.old side }
     ensures { room.new ≡ added room.old side (one_place place value) }
@@ -40,6 +41,7 @@ fn add(room: &mut Room, side: Side, place: u32, value: Option<Value>)
 }
 
 /// Adds places with the values of their slots, of which one is known.
+#[inline(always)]
 fn write(
     room: &mut Room,
     side: Side,
