@@ -1,14 +1,16 @@
 -- Tables of slots: what they have for names.
-use Rattle.std.proofs.Common.{◌≡◌, ℕ, zero, suc, ◌+◌, ◌*◌, ◌<◌, ◌⊎◌, inl, inr, ⊎_elim, List, [], ◌∷◌, ◌++◌, length, replicate, get_or, set, Option, Some, None, is_some, Bool, true, false, cond, nat_eq, ◌||◌, refl, sym, ap, ◌∙◌, subst, arith, get_or-set_same, get_or-set_other}
+use Rattle.std.proofs.Common.{◌≡◌, ℕ, zero, suc, ◌+◌, ◌*◌, ◌<◌, ◌⊎◌, inl, inr, ⊎_elim, List, [], ◌∷◌, ◌++◌, length, replicate, take, slice_get, get_or, set, Option, Some, None, is_some, Bool, true, false, cond, nat_eq, ◌||◌, refl, sym, ap, ◌∙◌, subst, arith, get_or-set_same, get_or-set_other}
 use Rattle.std.specs.Option.{option_and_then}
 use Rattle.std.proofs.lemmas.Bool.{false≢true, cases_eq, eq-eqb, ne_eqb, or_left, or_right}
+use Rattle.std.proofs.lemmas.List.{length-replicate}
 use Rattle.std.proofs.lemmas.Option.{same_Some, none-some}
 use Rattle.reo_net.specs.declared.circuit.RawCircuit.{RawCircuit}
 use Rattle.reo_growth.specs.Lists.{has}
 use Rattle.reo_flow.specs.declared.giver.Giver.{Giver}
 use Rattle.reo_flow.specs.Flow.{Sources, giver_of, flow, flow_at, data_in}
 use Rattle.reo_plan.specs.inside.Slots.{slot_value, AreOrdered, AreMore, HasFlow}
-use Rattle.reo_plan.specs.inside.Rows.{slot_in, HasSlots}
+use Rattle.reo_plan.specs.inside.Rows.{slot_in, IsFilled, HasSlots}
+use Rattle.reo_plan.proofs.PlaceSlotLemmas.{take_more}
 use Rattle.reo_plan.proofs.SlotLemmas.{kept_value, longer}
 
 has-append : (xs ys : List ℕ) (n : ℕ) → has (xs ++ ys) n ≡ (has xs n || has ys n)
@@ -18,6 +20,16 @@ has-append (x ∷ xs) ys n = go (nat_eq x n) (has-append xs ys n)
     go : (b : Bool) → has (xs ++ ys) n ≡ (has xs n || has ys n) → (b || has (xs ++ ys) n) ≡ ((b || has xs n) || has ys n)
     go true later = refl
     go false later = later
+
+or_false : (b : Bool) → (b || (false || false)) ≡ b
+or_false true = refl
+or_false false = refl
+
+-- a place that is emptied is empty, also past the end
+emptied : (table : List (Option ℕ)) (name : ℕ) → slot_in (set table name None) name ≡ None
+emptied [] name = refl
+emptied (x ∷ xs) zero = refl
+emptied (x ∷ xs) (suc name) = emptied xs name
 
 -- at first no name has a slot
 pub no_slots : (c : RawCircuit) (names : List ℕ) (slots : List Giver) (table : List (Option ℕ)) → slots ≡ [] → ((name : ℕ) → slot_in table name ≡ None) → HasSlots c names [] slots table
@@ -47,10 +59,6 @@ more_slots c names done old new table givers name slot is within has_old more fl
     elsewhere : (n : ℕ) → (n ≡ name → ⊥) → slot_in (set table name (Some slot)) n ≡ slot_in table n
     elsewhere n apart = let e : get_or (set table name (Some slot)) n None ≡ get_or table n None = rw get_or-set_other in e
 
-    or_false : (b : Bool) → (b || (false || false)) ≡ b
-    or_false true = refl
-    or_false false = refl
-
     at_or : (n s : ℕ) → slot_in (set table name (Some slot)) n ≡ Some s → {P : Type 0} → (s ≡ slot → P) → (slot_in table n ≡ Some s → P) → P
     at_or n s at new_one old_one =
         ⊎_elim
@@ -79,7 +87,50 @@ slot_data c names slots table slots_of texts sources name = go (slot_in table na
     go (Some slot) is false named = absurd (false≢true (sym named ∙ ap is_some is))
 
 -- no name has a slot in a table that has none
-pub empty_table : (n name : ℕ) → slot_in (replicate n None) name ≡ None
-empty_table zero name = refl
-empty_table (suc n) zero = refl
-empty_table (suc n) (suc name) = empty_table n name
+no_slot : (n name : ℕ) → slot_in (replicate n None) name ≡ None
+no_slot zero name = refl
+no_slot (suc n) zero = refl
+no_slot (suc n) (suc name) = no_slot n name
+
+pub empty_table : (count : ℕ) → IsFilled count [] (replicate count None)
+empty_table count = record { sized = length-replicate count None; named = λ name. ap is_some (no_slot count name) }
+
+none_of : (o : Option ℕ) → is_some o ≡ false → o ≡ None
+none_of None is = refl
+none_of (Some slot) is = absurd (false≢true (sym is))
+
+-- where no name has a slot, there is none
+pub none_filled : (count : ℕ) (table : List (Option ℕ)) → IsFilled count [] table → (name : ℕ) → slot_in table name ≡ None
+none_filled count table filled name = none_of (slot_in table name) (filled.named name)
+
+-- names that are not the table's have no slot
+pub none_without : (names : List ℕ) (table : List (Option ℕ)) → ((name : ℕ) → is_some (slot_in table name) ≡ has names name) → (name : ℕ) → (has names name ≡ false) ⊎ (has [] name ≡ true) → slot_in table name ≡ None
+none_without names table named name (inl without) = none_of (slot_in table name) (named name ∙ without)
+none_without names table named name (inr none) = absurd (false≢true none)
+
+-- a name less has a slot
+pub fewer_slots : (names : List ℕ) (i first : ℕ) (table : List (Option ℕ)) → slice_get names i ≡ Some first
+    → ((name : ℕ) → (has names name ≡ false) ⊎ (has (take i names) name ≡ true) → slot_in table name ≡ None)
+    → (name : ℕ) → (has names name ≡ false) ⊎ (has (take (i + 1) names) name ≡ true) → slot_in (set table first None) name ≡ None
+fewer_slots names i first table found none name which = go (cases_eq name first) which
+  where
+    stays : (name ≡ first → ⊥) → slot_in table name ≡ None → slot_in (set table first None) name ≡ None
+    stays apart is = (let e : get_or (set table first None) name None ≡ get_or table name None = rw get_or-set_other in e) ∙ is
+
+    before : (name ≡ first → ⊥) → has (take (i + 1) names) name ≡ true → has (take i names) name ≡ true
+    before apart h =
+        sym (or_false (has (take i names) name)) ∙ ap (λ b. has (take i names) name || (b || false)) (sym (ne_eqb first name (λ e. apart (sym e))))
+        ∙ sym (has-append (take i names) (first ∷ []) name) ∙ ap (λ l. has l name) (sym (take_more names i first found)) ∙ h
+
+    go : (name ≡ first) ⊎ (name ≡ first → ⊥) → (has names name ≡ false) ⊎ (has (take (i + 1) names) name ≡ true) → slot_in (set table first None) name ≡ None
+    go (inl same) other = ap (slot_in (set table first None)) same ∙ emptied table first
+    go (inr apart) (inl without) = stays apart (none name (inl without))
+    go (inr apart) (inr h) = stays apart (none name (inr (before apart h)))
+
+-- the table is empty in the end
+pub none_left : (count : ℕ) (names : List ℕ) (table : List (Option ℕ)) → length table ≡ count → ((name : ℕ) → (has names name ≡ false) ⊎ (has names name ≡ true) → slot_in table name ≡ None) → IsFilled count [] table
+none_left count names table sized none = record { sized = sized; named = λ name. ap is_some (go name (has names name) refl) }
+  where
+    go : (name : ℕ) (b : Bool) → has names name ≡ b → slot_in table name ≡ None
+    go name true is = none name (inr is)
+    go name false is = none name (inl is)

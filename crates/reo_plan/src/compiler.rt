@@ -1,40 +1,40 @@
 //! The rows of all firings.
-ghost use Rattle.std.specs.Prelude.{◌≡◌, ◌≤◌, length, map, All, IfOk};
+ghost use Rattle.std.specs.Prelude.{◌≡◌, ◌≤◌, [], length, map, All, IfOk, OnOk};
+ghost use Rattle.reo_net.specs.Names.{name_count};
 ghost use Rattle.reo_flow.specs.Places.{buffers};
 ghost use Rattle.reo_plan.specs.inside.Cells.{cell_numbers};
 ghost use Rattle.reo_product.specs.Table.{names_in};
 ghost use Rattle.reo_plan.specs.Plan.{firings_in};
-ghost use Rattle.reo_plan.specs.inside.Rows.{IsRow};
+ghost use Rattle.reo_plan.specs.inside.Rows.{HasSlots, IsFilled, IsRow};
 ghost use Rattle.reo_plan.specs.inside.Plans.{AreRows, ArePlans, IsOfNames};
 
 use crate::asks::presence_first;
 use crate::facts::facts_of;
 use crate::givers::incoming_of;
-use crate::places::{cell_slots, named_slots, port_slots, slot_table};
+use crate::places::{cell_slots, empty_slots, fill_slots, named_slots, port_slots};
 use crate::row::Row;
 use crate::slots::Givers;
 use reo_cut::CellCut;
+use reo_flow::Giver;
 use reo_net::Net;
 use reo_product::{Firing, RegionTable};
 use sqlite_items::Items;
 use std::alloc::{AllocError, Global};
 
-/// The row of the firing with these names.
-pub(crate) fn row_of(
+/// The row of the firing with these names, which have these slots.
+fn row_with(
     alloc: Global,
     net: &Net,
     numbers: &[u32],
     names: &[u32],
+    table: &[Option<u32>],
+    slots: Items<Giver>,
 ) -> Result<Row, AllocError>
     requires numbers { numbers.now ≡ cell_numbers net.now }
     requires names { IsOfNames net.now names.now }
+    requires slots { HasSlots net.now names.now names.now slots table.now }
     ensures { IfOk result (IsRow net.now names.now) }
 {
-    let incoming = incoming_of(alloc, net, names)?;
-    let givers = Givers::Names(net, numbers, names, incoming.as_slice());
-    let mut slots = Items::new(alloc);
-    let slot_of = slot_table(alloc, net, &givers, names, &mut slots)?;
-    let table = slot_of.as_slice();
     let asked = facts_of(alloc, net, numbers, table, names)?;
     let facts = presence_first(alloc, slots.as_slice(), asked.as_slice())?;
     let takes = cell_slots(alloc, net, numbers, table, names, true)?;
@@ -53,20 +53,46 @@ pub(crate) fn row_of(
     })
 }
 
+/// The row of the firing with these names, by a table that is empty, and is empty again then.
+pub(crate) fn row_of(
+    alloc: Global,
+    net: &Net,
+    numbers: &[u32],
+    names: &[u32],
+    table: &mut Vec<Option<u32>>,
+) -> Result<Row, AllocError>
+    requires numbers { numbers.now ≡ cell_numbers net.now }
+    requires names { IsOfNames net.now names.now }
+    requires empty { IsFilled (name_count net.now) [] table.old.items }
+    ensures empty { OnOk result (IsFilled (name_count net.now) [] table.new.items) }
+    ensures row { IfOk result (IsRow net.now names.now) }
+{
+    let incoming = incoming_of(alloc, net, names)?;
+    let givers = Givers::Names(net, numbers, names, incoming.as_slice());
+    let mut slots = Items::new(alloc);
+    fill_slots(net, &givers, names, &mut slots, table)?;
+    let row = row_with(alloc, net, numbers, names, table.as_slice(), slots)?;
+    empty_slots(net, names, table);
+    Ok(row)
+}
+
 /// The rows of a region's firings.
 fn rows_of(
     alloc: Global,
     net: &Net,
     numbers: &[u32],
     firings: &[Firing],
+    table: &mut Vec<Option<u32>>,
 ) -> Result<Items<Row>, AllocError>
     requires numbers { numbers.now ≡ cell_numbers net.now }
     requires names { All (λ firing. IsOfNames net.now firing.names) firings.now }
-    ensures { IfOk result (AreRows net.now (map names_in firings.now)) }
+    requires empty { IsFilled (name_count net.now) [] table.old.items }
+    ensures empty { OnOk result (IsFilled (name_count net.now) [] table.new.items) }
+    ensures rows { IfOk result (AreRows net.now (map names_in firings.now)) }
 {
     let mut rows = Items::new(alloc);
     for firing in firings {
-        let row = row_of(alloc, net, numbers, firing.names.as_slice())?;
+        let row = row_of(alloc, net, numbers, firing.names.as_slice(), table)?;
         rows.push(row)?;
     }
     Ok(rows)
@@ -87,9 +113,10 @@ pub(crate) fn plans_of(
     ensures { IfOk result (ArePlans net.now (map firings_in tables.now)) }
 {
     let _ = cells;
+    let mut slots = vec![in alloc; None; net.names() as usize]?;
     let mut plans = Items::new(alloc);
     for table in tables {
-        let rows = rows_of(alloc, net, numbers, table.firings.as_slice())?;
+        let rows = rows_of(alloc, net, numbers, table.firings.as_slice(), &mut slots)?;
         plans.push(rows)?;
     }
     Ok(plans)

@@ -3,7 +3,7 @@ ghost use Rattle.std.specs.Prelude.{◌≡◌, ◌<◌, [], ◌++◌, length, Al
 ghost use Rattle.std.specs.List.{cons_option};
 ghost use Rattle.reo_net.specs.Names.{name_count};
 ghost use Rattle.reo_flow.specs.Flow.{giver_of};
-ghost use Rattle.reo_plan.specs.inside.Rows.{HasSlots, named_slots};
+ghost use Rattle.reo_plan.specs.inside.Rows.{HasSlots, IsFilled, named_slots};
 ghost use Rattle.reo_plan.specs.inside.Cells.{cell_numbers};
 ghost use Rattle.reo_plan.specs.inside.Placed.{cell_in, cell_at, port_in, port_at, slot_at_place, placed_slots};
 ghost use Rattle.reo_plan.specs.inside.Givers.{giver_in, AreTold};
@@ -147,25 +147,38 @@ pub(crate) fn named_slots(
     Ok(named)
 }
 
-/// A slot for each name of a firing.
-pub(crate) fn slot_table(
-    alloc: Global,
+/// Fills a table that is empty with a slot for each name of a firing.
+pub(crate) fn fill_slots(
     net: &Net,
     givers: &Givers<'_>,
     names: &[u32],
     slots: &mut Items<Giver>,
-) -> Result<Vec<Option<u32>>, AllocError>
+    table: &mut Vec<Option<u32>>,
+) -> Result<(), AllocError>
     requires told { AreTold givers.now }
     requires givers { giver_in givers.now ≡ giver_of net.now names.now }
     requires names { All (λ name. name < name_count net.now) names.now }
     requires none { slots.old ≡ [] }
-    ensures { IfOk result (λ table. HasSlots net.now names.now names.now slots.new table.items) }
+    requires empty { IsFilled (name_count net.now) [] table.old.items }
+    ensures filled { OnOk result (IsFilled (name_count net.now) names.now table.new.items) }
+    ensures slots { OnOk result (HasSlots net.now names.now names.now slots.new table.new.items) }
 {
     let fuel = 2 * net.nodes() + 2;
-    let mut table = vec![in alloc; None; net.names() as usize]?;
     for name in names {
         let slot = slot_of(givers, slots, fuel, *name)?;
         table[*name as usize] = Some(slot);
     }
-    Ok(table)
+    Ok(())
+}
+
+/// Empties a table that is filled for the names of a firing.
+pub(crate) fn empty_slots(net: &Net, names: &[u32], table: &mut Vec<Option<u32>>)
+    requires names { All (λ name. name < name_count net.now) names.now }
+    requires filled { IsFilled (name_count net.now) names.now table.old.items }
+    ensures { IsFilled (name_count net.now) [] table.new.items }
+{
+    let _ = net;
+    for name in names {
+        table[*name as usize] = None;
+    }
 }

@@ -23,6 +23,11 @@ use Rattle.reo_plan.specs.declared.row.Row.{Row}
 abbrev pub slot_in : List (Option ℕ) → ℕ → Option ℕ
 slot_in table name = slice_index_or table name None
 
+-- the table is for so many names, and has a slot for each of these names and for no other
+pub record IsFilled (count : ℕ) (names : List ℕ) (table : List (Option ℕ)) : Type 0 where
+  pub sized : length table ≡ count
+  pub named : (name : ℕ) → is_some (slot_in table name) ≡ has names name
+
 -- Of a firing with these names, those that are done have slots with what flows to them, and no other name has one.
 pub record HasSlots (c : RawCircuit) (names done : List ℕ) (slots : List Giver) (table : List (Option ℕ)) : Type 0 where
   pub ordered : AreOrdered slots

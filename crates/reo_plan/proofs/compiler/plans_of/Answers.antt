@@ -15,10 +15,13 @@ loop-table-preserved c =
     let n = c.loop-table.table-index in
     let table = c.table-item.result in
     let small : length table.firings ≤ 4096 = subst (λ t. length t.firings ≤ 4096) (sym c.table-item.is) (c.requires.small n table (omega arith)) in
-    subst (ArePlans c.args.net.now (map firings_in (take (n + 1) tables))) (sym c.in_ok-push.ensures.ok)
-    (plans_more c.args.net.now tables n table c.loop-table.plans c.in_ok-rows.rows (slice_get-get_or tables n table (omega arith) ∙ ap Some (sym c.table-item.is)) c.loop-table.invariant
-    (omega (arith, small, length-map table.firings names_in))
-    (subst (λ fs. AreRows c.args.net.now (map names_in fs) c.in_ok-rows.rows) c.as_slice.ensures c.in_ok-rows.ensures))
+    record {
+      empty = c.in_ok-rows.ensures.empty;
+      plans = subst (ArePlans c.args.net.now (map firings_in (take (n + 1) tables))) (sym c.in_ok-push.ensures.ok)
+          (plans_more c.args.net.now tables n table c.loop-table.plans c.in_ok-rows.rows (slice_get-get_or tables n table (omega arith) ∙ ap Some (sym c.table-item.is)) c.loop-table.invariant.plans
+          (omega (arith, small, length-map table.firings names_in))
+          (subst (λ fs. AreRows c.args.net.now (map names_in fs) c.in_ok-rows.rows) c.as_slice.ensures c.in_ok-rows.ensures.rows));
+    }
 
 pub rows_of-requires-clause-names : goal.rows_of-requires-clause-names
 rows_of-requires-clause-names c =

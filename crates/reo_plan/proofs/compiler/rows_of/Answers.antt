@@ -12,9 +12,12 @@ loop-firing-preserved c =
     let firings = c.args.firings.now in
     let n = c.loop-firing.firing-index in
     let firing = c.firing-item.result in
-    subst (AreRows c.args.net.now (map names_in (take (n + 1) firings))) (sym c.in_ok-push.ensures.ok)
-    (rows_more c.args.net.now firings n firing c.loop-firing.rows c.in_ok-row.row (slice_get-get_or firings n firing (omega arith) ∙ ap Some (sym c.firing-item.is)) c.loop-firing.invariant
-    (subst (λ ns. IsRow c.args.net.now ns c.in_ok-row.row) c.as_slice.ensures c.in_ok-row.ensures))
+    record {
+      empty = c.in_ok-row.ensures.empty;
+      rows = subst (AreRows c.args.net.now (map names_in (take (n + 1) firings))) (sym c.in_ok-push.ensures.ok)
+          (rows_more c.args.net.now firings n firing c.loop-firing.rows c.in_ok-row.row (slice_get-get_or firings n firing (omega arith) ∙ ap Some (sym c.firing-item.is)) c.loop-firing.invariant.rows
+          (subst (λ ns. IsRow c.args.net.now ns c.in_ok-row.row) c.as_slice.ensures c.in_ok-row.ensures.row));
+    }
 
 pub row_of-requires-clause-names : goal.row_of-requires-clause-names
 row_of-requires-clause-names c =

@@ -5,7 +5,7 @@ use Rattle.reo_plan.specs.inside.Givers.{giver_in}
 use Rattle.reo_plan.specs.inside.Rows.{HasSlots}
 use Rattle.reo_plan.proofs.PlaceSlotLemmas.{take_more}
 use Rattle.reo_plan.proofs.TableLemmas.{more_slots}
-use Rattle.reo_plan.proofs.places.slot_table.Goals as goal
+use Rattle.reo_plan.proofs.places.fill_slots.Goals as goal
 
 pub loop-name-preserved : goal.loop-name-preserved
 loop-name-preserved c =

@@ -1,7 +1,7 @@
 use Rattle.std.proofs.Common.{◌≡◌, length, take}
 use Rattle.reo_net.specs.Names.{name_count}
 use Rattle.reo_plan.specs.inside.Rows.{HasSlots}
-use Rattle.reo_plan.proofs.places.slot_table.Given as goal
+use Rattle.reo_plan.proofs.places.fill_slots.Given as goal
 
 abbrev pub invariant-loop-name : goal.invariant-loop-name
 invariant-loop-name l = record {
