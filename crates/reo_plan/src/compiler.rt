@@ -10,7 +10,7 @@ ghost use Rattle.reo_plan.specs.inside.Plans.{AreRows, ArePlans, IsOfNames};
 
 use crate::asks::presence_first;
 use crate::facts::facts_of;
-use crate::givers::incoming_of;
+use crate::givers::{givers_of, incoming_of};
 use crate::places::{cell_slots, empty_slots, fill_slots, named_slots, port_slots};
 use crate::row::Row;
 use crate::slots::Givers;
@@ -68,7 +68,9 @@ pub(crate) fn row_of(
     ensures row { IfOk result (IsRow net.now names.now) }
 {
     let incoming = incoming_of(alloc, net, names)?;
-    let givers = Givers::Names(net, numbers, names, incoming.as_slice());
+    let incoming = incoming.as_slice();
+    let known = givers_of(alloc, net, numbers, names, incoming)?;
+    let givers = Givers::Names(net, numbers, names, incoming, known.as_slice());
     let mut slots = Items::new(alloc);
     fill_slots(net, &givers, names, &mut slots, table)?;
     let row = row_with(alloc, net, numbers, names, table.as_slice(), slots)?;

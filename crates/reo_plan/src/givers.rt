@@ -1,5 +1,5 @@
 //! Where the names of a firing have their data from.
-ghost use Rattle.std.specs.Prelude.{◌≡◌, ◌+◌, ◌<◌, if◌then◌else◌, [], ◌∷◌, ◌++◌, length, IfOk, OnOk};
+ghost use Rattle.std.specs.Prelude.{◌≡◌, ◌+◌, ◌<◌, if◌then◌else◌, [], ◌∷◌, ◌++◌, length, map, IfOk, OnOk};
 ghost use Rattle.reo_net.specs.Names.{end_a};
 ghost use Rattle.reo_net.specs.Kind.{is_fifo};
 ghost use Rattle.reo_net.specs.Steps.{cell_of};
@@ -175,13 +175,7 @@ fn end_giver(
 }
 
 /// Where a name has its datum from.
-pub(crate) fn giver_of(
-    net: &Net,
-    cells: &[u32],
-    names: &[u32],
-    incoming: &[(u32, u32)],
-    name: u32,
-) -> Giver
+fn giver_of(net: &Net, cells: &[u32], names: &[u32], incoming: &[(u32, u32)], name: u32) -> Giver
     requires incoming { incoming.now ≡ incoming_of net.now names.now }
     requires cells { cells.now ≡ cell_numbers net.now }
     ensures { result ≡ giver_of net.now names.now name }
@@ -202,5 +196,44 @@ pub(crate) fn giver_of(
             }
             None => Giver::Unfed,
         }
+    }
+}
+
+/// The givers of a firing's names.
+pub(crate) fn givers_of(
+    alloc: Global,
+    net: &Net,
+    cells: &[u32],
+    names: &[u32],
+    incoming: &[(u32, u32)],
+) -> Result<Vec<Giver>, AllocError>
+    requires incoming { incoming.now ≡ incoming_of net.now names.now }
+    requires cells { cells.now ≡ cell_numbers net.now }
+    ensures { IfOk result (λ givers. givers.items ≡ map (giver_of net.now names.now) names.now) }
+{
+    let mut givers = Vec::with_capacity(alloc, names.len())?;
+    for name in names {
+        givers.push(giver_of(net, cells, names, incoming, *name))?;
+    }
+    Ok(givers)
+}
+
+/// Where a name has its datum from: known, if the name is one of the firing.
+pub(crate) fn known_giver(
+    net: &Net,
+    cells: &[u32],
+    names: &[u32],
+    incoming: &[(u32, u32)],
+    known: &[Giver],
+    name: u32,
+) -> Giver
+    requires incoming { incoming.now ≡ incoming_of net.now names.now }
+    requires cells { cells.now ≡ cell_numbers net.now }
+    requires known { known.now ≡ map (giver_of net.now names.now) names.now }
+    ensures { result ≡ giver_of net.now names.now name }
+{
+    match names.binary_search(&name) {
+        Ok(place) => known[place],
+        Err(_) => giver_of(net, cells, names, incoming, name),
     }
 }

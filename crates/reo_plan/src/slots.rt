@@ -4,18 +4,19 @@ ghost use Rattle.reo_net.specs.declared.circuit.RawCircuit.{RawCircuit};
 ghost use Rattle.reo_plan.specs.inside.Givers.{giver_in, AreTold};
 ghost use Rattle.reo_plan.specs.inside.Slots.{slot_at, LooksBelow, AreOrdered, AreMore, HasFlow};
 
-use crate::givers::giver_of;
+use crate::givers::known_giver;
 use reo_flow::Giver;
 use reo_net::Net;
 use sqlite_items::Items;
 use std::alloc::{AllocError, Global};
 
 /// Where data come from: those in slots, or those at a circuit's names, in a firing with these names. A name's giver is found
-/// when it is asked for, by the circuit, the numbers of its cells, the firing's names and those that come into nodes.
+/// when it is asked for, by the circuit, the numbers of its cells, the firing's names, those that come into nodes, and the
+/// givers of the firing's names.
 #[derive(Drop)]
 pub(crate) enum Givers<'a> {
     Slots(&'a [Giver]),
-    Names(&'a Net, &'a [u32], &'a [u32], &'a [(u32, u32)]),
+    Names(&'a Net, &'a [u32], &'a [u32], &'a [(u32, u32)], &'a [Giver]),
 }
 
 fn same(x: &Giver, y: Giver) -> bool
@@ -72,7 +73,9 @@ pub(crate) fn giver_in(givers: &Givers<'_>, name: u32) -> Giver
 {
     match givers {
         Givers::Slots(slots) => giver_at(slots, name),
-        Givers::Names(net, cells, names, incoming) => giver_of(net, cells, names, incoming, name),
+        Givers::Names(net, cells, names, incoming, known) => {
+            known_giver(net, cells, names, incoming, known, name)
+        }
     }
 }
 
