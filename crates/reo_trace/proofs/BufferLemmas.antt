@@ -60,6 +60,11 @@ pub Takes-taken : {Z T E : Type 0} (a b : Vec ℕ Z) (r : Result T E) (x : List 
 Takes-taken a b (Ok done) x p = p
 Takes-taken a b (Err e) x p = tt
 
+-- a push after a push, where nothing is told of one that has no room
+pub taken-trans : {Z T E : Type 0} (a b c : Vec ℕ Z) (r : Result T E) (x y : List ℕ) → HasTaken a b x → OnOk r (HasTaken b c y) → OnOk r (HasTaken a c (x ++ y))
+taken-trans a b c (Ok done) x y p q = HasTaken-trans a b c x y p q
+taken-trans a b c (Err e) x y p q = tt
+
 -- one more of a list's numbered texts
 pub HasTaken-numbered : {A Z : Type 0} (f : ℕ → A → List ℕ) (a b c : Vec ℕ Z) (xs : List A) (i : ℕ) (x d : A) → i < length xs → get_or xs i d ≡ x
     → HasTaken a b (numbered f 0 (take i xs)) → HasTaken b c (f i x) → HasTaken a c (numbered f 0 (take (i + 1) xs))

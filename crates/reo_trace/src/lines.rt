@@ -1,9 +1,9 @@
 //! The lines of a report's text, each made in a buffer.
-ghost use Rattle.std.specs.Prelude.{◌≡◌, [], ◌∷◌, decimal, flat_map, slice_get, Some};
+ghost use Rattle.std.specs.Prelude.{◌≡◌, ◌+◌, ◌≤◌, [], ◌∷◌, length, take, drop, decimal, OnOk, vec_len, flat_map, slice_get, Some};
 ghost use Rattle.std.specs.Fmt.{signed_decimal};
 ghost use Rattle.std.specs.List.{list_all};
 ghost use Rattle.reo_value.specs.Lexicon.{text_at};
-ghost use Rattle.reo_trace.specs.Buffer.{Takes};
+ghost use Rattle.reo_trace.specs.Buffer.{HasTaken, Takes};
 ghost use Rattle.reo_trace.specs.Escapes as escapes;
 ghost use Rattle.reo_trace.specs.Fronts.{AreFronts};
 ghost use Rattle.reo_trace.specs.ReportText.{escaped, value_text, node_text, port_text, end_text, name_text, pair_text, step_line, end_line};
@@ -40,6 +40,25 @@ pub(crate) fn append(buffer: &mut Vec<u8>, bytes: &[u8]) -> Result<(), AllocErro
     ensures { Takes buffer.old buffer.new result bytes.now }
 {
     buffer.extend_from_slice(bytes)
+}
+
+/// Appends so many bytes from a place on. Bytes that are as long at each call need no call to be copied, so a few more are
+/// copied and taken away again.
+#[inline(always)]
+pub(crate) fn append_short(
+    buffer: &mut Vec<u8>,
+    bytes: &[u8],
+    from: usize,
+    count: usize,
+) -> Result<(), AllocError>
+    requires { (from + 32 ≤ length bytes.now) × (count ≤ 32) }
+    ensures taken { OnOk result (HasTaken buffer.old buffer.new (take count (drop from bytes.now))) }
+    ensures grows { vec_len buffer.old ≤ vec_len buffer.new }
+{
+    let len = buffer.len();
+    buffer.extend_from_slice(&bytes[from..from + 32])?;
+    buffer.truncate(len + count);
+    Ok(())
 }
 
 /// Appends one byte, with less ado.
@@ -192,7 +211,8 @@ pub(crate) fn push_datum(
     shown: &mut Shown,
     value: Value,
 ) -> Result<(), AllocError>
-    ensures { Takes buffer.old buffer.new result (value_text texts.now value) }
+    ensures taken { OnOk result (HasTaken buffer.old buffer.new (value_text texts.now value)) }
+    ensures grows { vec_len buffer.old ≤ vec_len buffer.new }
 {
     match value {
         Value::Int(number) => push_shown(buffer, shown, number.get()),
@@ -211,7 +231,8 @@ fn push_pair(
     pair: (u32, Value),
 ) -> Result<(), AllocError>
     requires { AreFronts net.now nodes.now fronts.now }
-    ensures { Takes buffer.old buffer.new result (pair_text net.now nodes.now texts.now pair) }
+    ensures taken { OnOk result (HasTaken buffer.old buffer.new (pair_text net.now nodes.now texts.now pair)) }
+    ensures grows { vec_len buffer.old ≤ vec_len buffer.new }
 {
     push_front_of(buffer, net, nodes, fronts, pair.0)?;
     push_datum(buffer, texts, shown, pair.1)
@@ -227,7 +248,8 @@ fn push_pairs(
     pairs: &[(u32, Value)],
 ) -> Result<(), AllocError>
     requires { AreFronts net.now nodes.now fronts.now }
-    ensures { Takes buffer.old buffer.new result (flat_map (pair_text net.now nodes.now texts.now) pairs.now) }
+    ensures taken { OnOk result (HasTaken buffer.old buffer.new (flat_map (pair_text net.now nodes.now texts.now) pairs.now)) }
+    ensures grows { vec_len buffer.old ≤ vec_len buffer.new }
 {
     for pair in pairs {
         push_pair(buffer, net, nodes, texts, fronts, shown, *pair)?;
@@ -246,7 +268,8 @@ pub(crate) fn push_step(
     pairs: &[(u32, Value)],
 ) -> Result<(), AllocError>
     requires { AreFronts net.now nodes.now fronts.now }
-    ensures { Takes buffer.old buffer.new result (step_line net.now nodes.now texts.now number (record { pairs = pairs.now })) }
+    ensures taken { OnOk result (HasTaken buffer.old buffer.new (step_line net.now nodes.now texts.now number (record { pairs = pairs.now }))) }
+    ensures grows { vec_len buffer.old ≤ vec_len buffer.new }
 {
     push_step_number(buffer, number)?;
     push_pairs(buffer, net, nodes, texts, fronts, shown, pairs)?;

@@ -1,4 +1,4 @@
-use Rattle.std.proofs.Common.{◌≡◌, sym, ap, ◌∙◌, ◌++◌, ◌+◌, length, arith}
+use Rattle.std.proofs.Common.{◌≡◌, sym, ap, ◌∙◌, ◌++◌, ◌+◌, length, replicate, arith}
 use Rattle.reo_net.specs.Names.{name_count}
 use Rattle.reo_trace.specs.Fronts.{front_text}
 use Rattle.reo_trace.proofs.PartLemmas.{below_more, part_long, starts_more}
@@ -16,4 +16,4 @@ loop-name-preserved c =
 pub returns : goal.returns
 returns c =
     let all : c.loop-name.name ≡ name_count c.args.net.now = omega (arith, c.loop-name-test.false, c.loop-name.auto.name-end, c.names-name-end.ensures.names) in
-    are_fronts c.args.net.now c.args.nodes.now _ c.loop-name.name all c.loop-name.invariant.0 c.loop-name.invariant.2
+    are_fronts c.args.net.now c.args.nodes.now _ c.loop-name.name all (c.in_ok-extend_from_slice.ensures.items ∙ ap (λ l. l ++ replicate 32 0) c.loop-name.invariant.0) c.loop-name.invariant.2

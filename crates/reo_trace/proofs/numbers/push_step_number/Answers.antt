@@ -1,7 +1,8 @@
-use Rattle.std.proofs.Common.{◌-◌, ◌∷◌, ◌++◌, drop, ap, ◌∙◌, arith, rules, append-nil, decimal, subst}
+use Rattle.std.proofs.Common.{◌≡◌, ◌-◌, ◌∷◌, ◌++◌, length, take, drop, replicate, ap, ◌∙◌, arith, rules, codes, decimal, OnOk, subst}
 use Rattle.std.proofs.lemmas.Fmt.{length-decimal-le}
-use Rattle.std.proofs.lemmas.List.{drop-replicate, length-drop, take_all}
-use Rattle.reo_trace.specs.Buffer.{Takes}
+use Rattle.std.proofs.lemmas.List.{drop-replicate}
+use Rattle.std.proofs.Math.Seq.{take-append_seam}
+use Rattle.reo_trace.specs.Buffer.{HasTaken}
 use Rattle.reo_trace.proofs.numbers.push_step_number.Goals as goal
 
 pub write_digits-digits-requires : goal.write_digits-digits-requires
@@ -32,12 +33,17 @@ put_before-first-requires c =
     let long = length-decimal-le 20 c.args.number (omega arith) (omega arith) c.ranges.number.fits in
     (omega (arith, long, c.write_digits-digits.ensures.start, c.put_before-last.ensures.at, c.put_before-fourth.ensures.at, c.put_before-third.ensures.at, c.put_before-second.ensures.at), omega (arith, c.write_digits-digits.ensures.start, c.put_before-last.ensures.at, c.put_before-fourth.ensures.at, c.put_before-third.ensures.at, c.put_before-second.ensures.at))
 
-pub returns : goal.returns
-returns c =
+pub returns-clause-taken : goal.returns-clause-taken
+returns-clause-taken c =
     let first = c.put_before-first in
-    let whole = take_all (32 - first.result) (drop first.result first.new.made) (omega (arith, length-drop first.result first.new.made)) in
-    let text =
-    whole ∙ first.ensures.made ∙ ap (λ l. 115 ∷ l) (c.put_before-second.ensures.made ∙ ap (λ l. 116 ∷ l) (c.put_before-third.ensures.made ∙ ap (λ l. 101 ∷ l)
+    let digits = decimal c.args.number in
+    let whole = codes "step " ++ digits in
+    let rest = replicate 32 0 in
+    let made : drop first.result first.new.made ≡ whole ++ rest =
+    first.ensures.made ∙ ap (λ l. 115 ∷ l) (c.put_before-second.ensures.made ∙ ap (λ l. 116 ∷ l) (c.put_before-third.ensures.made ∙ ap (λ l. 101 ∷ l)
     (c.put_before-fourth.ensures.made ∙ ap (λ l. 112 ∷ l) (c.put_before-last.ensures.made ∙ ap (λ l. 32 ∷ l)
-    (c.write_digits-digits.ensures.written ∙ ap (λ l. decimal c.args.number ++ l) (drop-replicate 32 32 0) ∙ append-nil (decimal c.args.number)))))) in
-    subst (λ l. Takes c.args.buffer.now c.append.new.buffer c.append.result l) text c.append.ensures
+    (c.write_digits-digits.ensures.written ∙ ap (λ l. digits ++ l) (drop-replicate 32 64 0)))))) in
+    let long : 32 - first.result ≡ length whole =
+    omega (arith, first.ensures.at, c.put_before-second.ensures.at, c.put_before-third.ensures.at, c.put_before-fourth.ensures.at, c.put_before-last.ensures.at, c.write_digits-digits.ensures.start) in
+    subst (λ l. OnOk c.append_short.result (HasTaken c.args.buffer.now c.append_short.new.buffer l))
+    (ap (take (32 - first.result)) made ∙ ap (λ n. take n (whole ++ rest)) long ∙ take-append_seam whole rest) c.append_short.ensures.taken

@@ -5,4 +5,4 @@ use Rattle.reo_trace.proofs.report_lines.ReportLinesRecorder.keep.Goals as goal
 pub returns : goal.returns
 returns c =
     λ start steps before.
-    kept_more start _ _ steps (record { pairs = c.args.pairs.now }) (one_more _ (record { pairs = c.args.pairs.now }) _ _ c.in_ok-push_step.ensures.items refl) (c.self.view_is ∙ before)
+    kept_more start _ _ steps (record { pairs = c.args.pairs.now }) (one_more _ (record { pairs = c.args.pairs.now }) _ _ c.in_ok-push_step.ensures.taken.items refl) (c.self.view_is ∙ before)
