@@ -12,5 +12,5 @@ returns-clause-tables c = all_tables c.args.net.now c.args.cut.now c.loop-region
 
 pub returns-in_err-table-clause-refused : goal.returns-in_err-table-clause-refused
 returns-in_err-table-clause-refused c =
-    passed_on c.from_residual.result c.in_err-table.field-0.0 (Declines c.args.net.now) c.from_residual.ensures.1
+    passed_on c.from_residual-in_err-table.result c.in_err-table.field-0.0 (Declines c.args.net.now) c.from_residual-in_err-table.ensures.1
     (declined c.args.net.now c.args.cut.now c.nodes.ensures.checked c.requires.cut c.loop-region.tables c.loop-region.region c.loop-region.invariant (grind (arith, c.loop-region-test.true)) c.in_err-table.field-0.0 c.in_err-table.ensures.refused)
