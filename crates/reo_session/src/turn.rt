@@ -89,16 +89,15 @@ pub(crate) fn fire_next<D: Decider + Drop>(
     fire_between(engine, awake, 0, place)
 }
 
-/// Makes a list the same as these places.
-#[inline(always)]
+/// Makes a list the same as these places, which are few.
 fn copy_places(list: &mut Vec<(u32, Value)>, places: &[(u32, Value)]) -> Result<(), AllocError>
     ensures { OnOk result (list.new.items ≡ places.now) }
 {
     list.clear();
-    if places.is_empty() {
-        return Ok(());
+    for place in places {
+        list.push(*place)?;
     }
-    list.extend_from_slice(places)
+    Ok(())
 }
 
 /// Keeps the step of the engine's last entry, wakes the regions that have places of it, and tells where it is answered.
