@@ -1,5 +1,5 @@
 //! Where the names of a firing have their data from.
-ghost use Rattle.std.specs.Prelude.{◌≡◌, ◌+◌, ◌<◌, if◌then◌else◌, [], ◌∷◌, ◌++◌, length, map, IfOk, OnOk};
+ghost use Rattle.std.specs.Prelude.{◌≡◌, ◌+◌, ◌<◌, if◌then◌else◌, [], ◌∷◌, ◌++◌, length, map, IfOk, IfSome, OnOk};
 ghost use Rattle.reo_net.specs.Names.{end_a};
 ghost use Rattle.reo_net.specs.Kind.{is_fifo};
 ghost use Rattle.reo_net.specs.Steps.{cell_of};
@@ -218,8 +218,27 @@ pub(crate) fn givers_of(
     Ok(givers)
 }
 
-/// Where a name has its datum from: known, if the name is one of the firing.
-pub(crate) fn known_giver(
+/// The known giver of a name, if it stands at this place among the firing's names.
+fn giver_at_place(
+    net: &Net,
+    names: &[u32],
+    known: &[Giver],
+    place: usize,
+    name: u32,
+) -> Option<Giver>
+    requires { known.now ≡ map (giver_of net.now names.now) names.now }
+    ensures { IfSome result (λ giver. giver ≡ giver_of net.now names.now name) }
+{
+    let _ = net;
+    if place < names.len() && names[place] == name {
+        Some(known[place])
+    } else {
+        None
+    }
+}
+
+/// The giver of a name, found among the firing's names if it is one of them.
+fn found_giver(
     net: &Net,
     cells: &[u32],
     names: &[u32],
@@ -235,5 +254,25 @@ pub(crate) fn known_giver(
     match names.binary_search(&name) {
         Ok(place) => known[place],
         Err(_) => giver_of(net, cells, names, incoming, name),
+    }
+}
+
+/// Where a name has its datum from: known, if the name is one of the firing. Where all names fire, its place is its number.
+pub(crate) fn known_giver(
+    net: &Net,
+    cells: &[u32],
+    names: &[u32],
+    incoming: &[(u32, u32)],
+    known: &[Giver],
+    name: u32,
+) -> Giver
+    requires incoming { incoming.now ≡ incoming_of net.now names.now }
+    requires cells { cells.now ≡ cell_numbers net.now }
+    requires known { known.now ≡ map (giver_of net.now names.now) names.now }
+    ensures { result ≡ giver_of net.now names.now name }
+{
+    match giver_at_place(net, names, known, name as usize, name) {
+        Some(giver) => giver,
+        None => found_giver(net, cells, names, incoming, known, name),
     }
 }

@@ -3,7 +3,7 @@ use Rattle.std.proofs.lemmas.Cmp.{ranked}
 use Rattle.std.proofs.lemmas.List.{get_or-map}
 use Rattle.reo_flow.specs.declared.giver.Giver.TheVariants.{Unfed}
 use Rattle.reo_flow.specs.Flow.{giver_of}
-use Rattle.reo_plan.proofs.givers.known_giver.Goals as goal
+use Rattle.reo_plan.proofs.givers.found_giver.Goals as goal
 
 pub returns-in-Ok : goal.returns-in-Ok
 returns-in-Ok c =
