@@ -156,7 +156,6 @@ impl Builder {
     }
 
     // Adds a put of the value at the node of this name, or a get there, where it may stand here.
-    #[inline(always)]
     fn operate(
         &mut self,
         line: &[u8],

@@ -118,6 +118,7 @@ fn collect_at<D: Decider + Drop>(
 }
 
 /// Takes all answers at these ports.
+#[inline(always)]
 fn collect_from<D: Decider + Drop>(
     engine: &mut PlainEngine<D>,
     watch: &mut Watch,
