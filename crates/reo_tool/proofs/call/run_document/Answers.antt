@@ -31,7 +31,7 @@ returns-in-Ok-text_of_run g c =
       told = run.bytes;
       ending = refl;
     }))
-    (subst (λ (bytes : List ℕ). IsWritten (sink_seen g.K.Sink c.args.out.now) (sink_seen g.K.Sink c.tell.new.sink) bytes (status_of run.report.ending) c.tell.result) c.as_slice.ensures
+    (subst (λ (bytes : List ℕ). IsWritten (sink_seen g.K.Sink c.args.out.now) (sink_seen g.K.Sink c.tell.new.sink) bytes (status_of run.report.ending) c.tell.result) c.as_slice.ensures.value
     (subst (λ (s : Status). IsWritten (sink_seen g.K.Sink c.args.out.now) (sink_seen g.K.Sink c.tell.new.sink) c.as_slice.result.now s c.tell.result) (c.of_ending.ensures ∙ ap status_of run.ending) c.tell.ensures.told))
     refl
 
