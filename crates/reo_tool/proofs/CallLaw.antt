@@ -1,17 +1,17 @@
 -- The causes of what a call writes, and what they rule out.
-use Rattle.std.proofs.Common.{◌≡◌, ◌≢◌, ℕ, ◌+◌, ◌<◌, ◌≤◌, ◌⊎◌, List, length, get_or, slice_get, take, Bool, true, false, Option, Some, None, refl, sym, ap, ◌∙◌, subst, inl, inr, ⊎_elim, arith}
+use Rattle.std.proofs.Common.{◌≡◌, ℕ, ◌<◌, ◌⊎◌, List, length, take, Some, None, refl, sym, ap, ◌∙◌, subst, inl, inr, ⊎_elim, arith}
 use Rattle.std.specs.Prelude.{Result, Ok, Err}
 use Rattle.std.specs.Result.{OnOk, IfErr, MatchResult}
 use Rattle.std.specs.Borrow.{Bor}
 use Rattle.std.proofs.lemmas.Option.{none-some, same_Some}
-use Rattle.reo_base.specs.Faults.{Rose, HasCause}
-use Rattle.reo_base.specs.Streams.{IsReadWhole, IsExtended}
+use Rattle.reo_base.specs.Faults.{HasCause}
+use Rattle.reo_base.specs.Streams.{IsExtended}
 use Rattle.reo_base.specs.declared.whole_write.WriteFault.{WriteFault as Fault}
 use Rattle.reo_document.specs.declared.refusal.TextRefusal.{TextRefusal}
 use Rattle.reo_document.specs.declared.refusal.TextRefusal.TheVariants as text
 use Rattle.reo_document.specs.Document.{DocumentData, circuit_of}
 use Rattle.reo_document.specs.Reading.{IsRefusalOf}
-use Rattle.reo_document.specs.Spells.{Spells, IsRefusedAs}
+use Rattle.reo_document.specs.Spells.{Spells}
 use Rattle.reo_document.proofs.SpellLemmas.{one_document, refused_alone}
 use Rattle.reo_session.specs.declared.preparation.SessionRefusal.{SessionRefusal}
 use Rattle.reo_session.specs.declared.preparation.SessionRefusal.TheVariants as session
@@ -21,7 +21,7 @@ use Rattle.reo_tool.specs.declared.command.Command.TheVariants.{Run, Show, Plan}
 use Rattle.reo_tool.specs.declared.status.Status.{Status}
 use Rattle.reo_tool.specs.declared.status.Status.TheVariants.{Refused, Usage, ReadFault, WriteFault, Memory}
 use Rattle.reo_tool.specs.FaultText.{out_of_memory_text, text_text, session_text}
-use Rattle.reo_tool.specs.Call.{asked, SourceSeen, SinkSeen, Target, ToOut, ToErr, Sinks, sink_at, other_sink, Breaks, IsWritten, IsTold, Writes, IsNotRun, Answers, CanAnswer, CannotAnswer, ForDocument, Answer, Refusal, Wanting, ForBytes, Spelled, NoDocument, BytesWanting, ForCall, Read, NoCommand, ReadFailed, TooLong, ReadWanting, IsPromised, IsAnswered, IsRefusable, IsOverlong, IsOrAbove, most_bytes}
+use Rattle.reo_tool.specs.Call.{asked, SourceSeen, SinkSeen, Target, ToOut, ToErr, Sinks, sink_at, other_sink, IsWritten, IsTold, Writes, IsNotRun, Answers, CanAnswer, CannotAnswer, ForDocument, Answer, Refusal, Wanting, ForBytes, Spelled, NoDocument, BytesWanting, ForCall, Read, NoCommand, ReadFailed, TooLong, ReadWanting, IsPromised, IsAnswered, IsRefusable, IsOverlong, IsOrAbove}
 use Rattle.reo_tool.proofs.RefusalLaw.{not_run, not_run_for}
 
 -- what a write of a whole text tells

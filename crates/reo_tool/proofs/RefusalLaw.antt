@@ -1,5 +1,5 @@
 -- A region has a table or is too large, and never both; so a document is accepted or is not run.
-use Rattle.std.proofs.Common.{◌≡◌, ◌≢◌, ℕ, ◌+◌, ◌<◌, ⊎_elim, List, length, map, Some, refl, ap, ◌∙◌, subst, arith}
+use Rattle.std.proofs.Common.{◌≢◌, ℕ, ⊎_elim, List, length, map, Some, refl, ap, ◌∙◌, subst, arith}
 use Rattle.std.proofs.lemmas.Option.{slice_get-get_or, slice_get_within, get_or_from_slice_get}
 use Rattle.reo_net.specs.declared.circuit.RawCircuit.{RawCircuit}
 use Rattle.reo_net.specs.declared.net.CheckRefusal.{CheckRefusal}

@@ -1,4 +1,4 @@
-use Rattle.std.proofs.Common.{sym, ap, ◌∙◌}
+use Rattle.std.proofs.Common.{ap, ◌∙◌}
 use Rattle.reo_fabric.specs.Entry.{at_place}
 use Rattle.reo_plan.proofs.BackLaw.{cell_back}
 use Rattle.reo_plan.proofs.sources.taken_from.Goals as goal

@@ -1,7 +1,6 @@
 use Rattle.std.proofs.Common.{◌≡◌, [], List, length, map, sym, ap, ◌∙◌, subst}
 use Rattle.std.specs.Borrow.{Bor}
 use Rattle.std.proofs.lemmas.List.{length-map}
-use Rattle.reo_net.specs.declared.circuit.Step.{Step}
 use Rattle.reo_fabric.specs.declared.fabric.Fabric.{Fabric}
 use Rattle.reo_fabric.specs.declared.port_state.PortState.TheVariants.{Idle}
 use Rattle.reo_fabric.specs.Engine.{EngineState, port_at}

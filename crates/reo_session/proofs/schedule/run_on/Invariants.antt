@@ -1,4 +1,4 @@
-use Rattle.std.proofs.Common.{◌≡◌, length}
+use Rattle.std.proofs.Common.{◌≡◌}
 use Rattle.reo_session.specs.Running.{IsRunning}
 use Rattle.reo_session.specs.Session.{firings_of}
 use Rattle.reo_session.specs.Watch.{IsWatching}

@@ -1,9 +1,9 @@
-use Rattle.std.proofs.Common.{sym, subst, ◌∙◌, refl, List, ℕ}
+use Rattle.std.proofs.Common.{sym, subst, ◌∙◌, refl}
 use Rattle.reo_document.specs.Spells.{Spells}
 use Rattle.reo_tool.specs.declared.command.Command.TheVariants.{Show}
 use Rattle.reo_tool.specs.declared.status.Status.TheVariants.{Done, Memory}
 use Rattle.reo_tool.specs.FaultText.{out_of_memory_text}
-use Rattle.reo_tool.specs.Call.{sink_seen, sinks_seen, IsWritten, ForDocument, Answer, Wanting}
+use Rattle.reo_tool.specs.Call.{sinks_seen, ForDocument, Answer, Wanting}
 use Rattle.reo_tool.proofs.CallLaw.{writes_err, writes_out}
 use Rattle.reo_tool.proofs.call.show_document.Goals as goal
 

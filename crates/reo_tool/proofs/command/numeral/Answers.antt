@@ -1,4 +1,4 @@
-use Rattle.std.proofs.Common.{◌≡◌, true, sym, ◌∙◌, arith}
+use Rattle.std.proofs.Common.{◌≡◌, true, ◌∙◌, arith}
 use Rattle.reo_tool.specs.Words.{is_numeral}
 use Rattle.reo_tool.proofs.WordLemmas.{numeral_parsed}
 use Rattle.reo_tool.proofs.command.numeral.Goals as goal
