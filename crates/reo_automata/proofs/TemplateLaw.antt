@@ -27,3 +27,8 @@ module _ (c : RawCircuit) (number : ℕ) (t : Template) where
   of_node channels same past is =
       subst (IsTemplate c (automaton_of c number)) (sym (is ∙ ap (λ (chs : List Channel). record { names = node_names c (number - length chs); links = node_links c (node_names c (number - length chs)) }) same))
       (subst (λ x. IsTemplate c x (record { names = node_names c (number - length c.channels); links = node_links c (node_names c (number - length c.channels)) })) (sym (ap (λ b. cond b (OfChannel number) (OfNode (number - length c.channels))) (le-ltb number (length c.channels) (subst (λ chs. length chs ≤ number) same past)))) (node_is_template c (number - length c.channels)))
+
+  -- the same, where the names are listed already
+  pub of_names : (channels : List Channel) (names : List ℕ) → channels ≡ c.channels → length channels ≤ number → names ≡ node_names c (number - length channels)
+      → t ≡ record { names = names; links = node_links c names } → IsTemplate c (automaton_of c number) t
+  of_names channels names same past listed is = of_node channels same past (is ∙ ap (λ (ns : List ℕ). record { names = ns; links = node_links c ns }) listed)

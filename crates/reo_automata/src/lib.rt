@@ -2,7 +2,9 @@
 #![tactic(auto)]
 
 mod channel;
+mod names;
 mod node;
 mod template;
 
-pub use template::{Link, Rule, Template, template_of};
+pub use names::{NodeNames, names_of_nodes};
+pub use template::{Link, Rule, Template, template_by, template_of};

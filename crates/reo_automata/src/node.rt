@@ -115,3 +115,16 @@ pub fn node_template(alloc: Global, net: &Net, node: u32) -> Result<Template, Al
         links,
     })
 }
+
+/// The template of a node that has these names.
+pub fn named_template(alloc: Global, net: &Net, names: &[u32]) -> Result<Template, AllocError>
+    ensures { IfOk result (λ t. t ≡ record { names = names.now; links = node_links net.now names.now }) }
+{
+    let mut list = Vec::new(alloc);
+    list.extend_from_slice(names)?;
+    let links = node_links(alloc, net, names)?;
+    Ok(Template {
+        names: Items::from_vec(list),
+        links,
+    })
+}
