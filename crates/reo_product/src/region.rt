@@ -2,12 +2,14 @@
 ghost use Rattle.std.specs.Prelude.{◌≡◌, ℕ, ◌<◌, ◌^◌, List, length, map, slice_get, All, Some, IfOk, IfErr};
 ghost use Rattle.std.specs.List.Sorted.{IsStrictlyIncreasing};
 ghost use Rattle.reo_net.specs.Regions.{Automaton};
+ghost use Rattle.reo_automata.specs.NodeNames.{AreNodeNames};
 ghost use Rattle.reo_cut.specs.Cut.{IsCut};
 ghost use Rattle.reo_product.specs.Region.{AreMembers, is_of, numbers_of};
 ghost use Rattle.reo_product.specs.Table.{IsTableOf, Refuses, names_in};
 
 use crate::members::Members;
 use crate::table::{ProductRefusal, RegionTable, table_of_automata};
+use reo_automata::{NodeNames, names_of_nodes};
 use reo_cut::Cut;
 use reo_net::Net;
 use std::alloc::{AllocError, Global};
@@ -49,23 +51,26 @@ pub fn region_table(
 {
     let _ = net.nodes();
     let automata = numbers_of(alloc, cut.region_of.as_slice(), region)?;
-    table_of_automata(alloc, net, region, &automata)
+    let node_names = names_of_nodes(alloc, net)?;
+    table_of_automata(alloc, net, &node_names, region, &automata)
 }
 
-/// The same as `region_table`, where the automata of all regions are listed already.
+/// The same as `region_table`, where the automata of all regions and the names of all nodes are listed already.
 pub fn region_table_of(
     alloc: Global,
     net: &Net,
     cut: &Cut,
     members: &Members,
+    node_names: &NodeNames,
     region: u32,
 ) -> Result<RegionTable, ProductRefusal>
     requires cut { IsCut net.now cut.now }
     requires members { AreMembers cut.now.region_of cut.now.regions members.now }
+    requires node_names { AreNodeNames net.now node_names.now }
     ensures region { IfOk result (λ table. table.region ≡ region) }
     ensures table { IfOk result (λ table. (cut : IsCut net.now cut.now) (root : Automaton) → slice_get cut.roots region ≡ Some root → IsTableOf net.now root table.growth (map names_in table.firings)) }
     ensures refused { IfErr result (λ why. (cut : IsCut net.now cut.now) (root : Automaton) → slice_get cut.roots region ≡ Some root → Refuses net.now root region why) }
 {
     let _ = net.nodes();
-    table_of_automata(alloc, net, region, members.of(region))
+    table_of_automata(alloc, net, node_names, region, members.of(region))
 }

@@ -3,6 +3,7 @@ ghost use Rattle.std.specs.Prelude.{◌≡◌, ℕ, ◌+◌, ◌<◌, ◌^◌, L
 ghost use Rattle.std.specs.List.Sorted.{IsStrictlyIncreasing};
 ghost use Rattle.reo_net.specs.Checks.{IsChecked};
 ghost use Rattle.reo_net.specs.Regions.{Automaton as AnyAutomaton};
+ghost use Rattle.reo_automata.specs.NodeNames.{AreNodeNames};
 ghost use Rattle.reo_growth.specs.Marks.{AreBelow};
 ghost use Rattle.reo_product.specs.Places.{AreRegionAutomata};
 ghost use Rattle.reo_product.specs.RegionWeb.{name_at};
@@ -10,6 +11,7 @@ ghost use Rattle.reo_product.specs.Refusal.{refusal_of};
 ghost use Rattle.reo_product.specs.Table.{IsTableOf, Refuses, names_in};
 
 use crate::web::web_of;
+use reo_automata::NodeNames;
 use reo_growth::{TableRefusal, table_of};
 use reo_net::Net;
 use sqlite_items::Items;
@@ -96,17 +98,19 @@ fn firings_of(
 pub fn table_of_automata(
     alloc: Global,
     net: &Net,
+    node_names: &NodeNames,
     region: u32,
     automata: &[u32],
 ) -> Result<RegionTable, ProductRefusal>
     requires checked { IsChecked net.now }
+    requires node_names { AreNodeNames net.now node_names.now }
     requires rising { IsStrictlyIncreasing automata.now }
     requires below { All (λ x. x < length net.now.channels + net.now.nodes) automata.now }
     ensures region { IfOk result (λ table. table.region ≡ region) }
     ensures table { IfOk result (λ table. (root : AnyAutomaton) → AreRegionAutomata net.now root automata.now → IsTableOf net.now root table.growth (map names_in table.firings)) }
     ensures refused { IfErr result (λ why. (root : AnyAutomaton) → AreRegionAutomata net.now root automata.now → Refuses net.now root region why) }
 {
-    let made = web_of(alloc, net, automata)?;
+    let made = web_of(alloc, net, node_names, automata)?;
     match table_of(alloc, made.web) {
         Ok(table) => {
             let firings = firings_of(alloc, made.names.as_slice(), table.firings.as_slice())?;

@@ -3,12 +3,13 @@ ghost use Rattle.std.specs.Prelude.{◌≡◌, ℕ, ◌+◌, ◌<◌, ◌^◌, l
 ghost use Rattle.std.specs.List.Sorted.{IsStrictlyIncreasing};
 ghost use Rattle.reo_net.specs.Checks.{IsChecked};
 ghost use Rattle.reo_net.specs.Regions.{Automaton as AnyAutomaton};
+ghost use Rattle.reo_automata.specs.NodeNames.{AreNodeNames};
 ghost use Rattle.reo_growth.specs.Web.{AreFew, IsWeb};
 ghost use Rattle.reo_product.specs.RegionWeb.{IsRegionWeb};
 ghost use Rattle.reo_product.specs.Places.{AreCells, AreNamesOf, ArePaired, AreRegionAutomata, AreTemplates, FindsCell, begins_buffer, IsKnownTemplate, IsPlacedTemplate};
 
 use crate::places::{place_of, place_template};
-use reo_automata::{Template, template_of};
+use reo_automata::{NodeNames, Template, template_by};
 use reo_growth::{Automaton, Web};
 use reo_net::Net;
 use sqlite_items::{Items, at};
@@ -22,13 +23,19 @@ pub struct RegionWeb {
 }
 
 /// The templates of automata.
-fn templates_of(alloc: Global, net: &Net, automata: &[u32]) -> Result<Vec<Template>, AllocError>
-    requires { All (λ x. x < length net.now.channels + net.now.nodes) automata.now }
+fn templates_of(
+    alloc: Global,
+    net: &Net,
+    node_names: &NodeNames,
+    automata: &[u32],
+) -> Result<Vec<Template>, AllocError>
+    requires node_names { AreNodeNames net.now node_names.now }
+    requires below { All (λ x. x < length net.now.channels + net.now.nodes) automata.now }
     ensures { IfOk result (λ templates. AreTemplates net.now automata.now templates.items) }
 {
     let mut templates = Vec::with_capacity(alloc, automata.len())?;
     for number in automata {
-        templates.push(template_of(alloc, net, *number)?)?;
+        templates.push(template_by(alloc, net, node_names, *number)?)?;
     }
     Ok(templates)
 }
@@ -110,15 +117,21 @@ fn cell_of(names: &[u32], is_fifo: bool, a: u32) -> Option<(u32, u32)>
 }
 
 /// The region with these automata as a web.
-pub fn web_of(alloc: Global, net: &Net, automata: &[u32]) -> Result<RegionWeb, AllocError>
+pub fn web_of(
+    alloc: Global,
+    net: &Net,
+    node_names: &NodeNames,
+    automata: &[u32],
+) -> Result<RegionWeb, AllocError>
     requires checked { IsChecked net.now }
+    requires node_names { AreNodeNames net.now node_names.now }
     requires below { All (λ x. x < length net.now.channels + net.now.nodes) automata.now }
     ensures web { IfOk result (λ it. (root : AnyAutomaton) → AreRegionAutomata net.now root automata.now → IsRegionWeb net.now root it.names it.web) }
     ensures is_web { IfOk result (λ it. IsWeb it.web) }
     ensures named { IfOk result (λ it. it.web.names ≡ length it.names) }
     ensures few { IfOk result (λ it. IsStrictlyIncreasing automata.now → AreFew it.web) }
 {
-    let templates = templates_of(alloc, net, automata)?;
+    let templates = templates_of(alloc, net, node_names, automata)?;
     let names = names_of(alloc, &templates)?;
     let automata = place_templates(alloc, &names, &templates)?;
     let cells = cells_of(alloc, net, &names)?;

@@ -2,10 +2,12 @@
 ghost use Rattle.std.specs.Prelude.{◌≡◌, [], ◌∷◌, ◌++◌, slice_get, Some, IfOk, IfErr, OnOk};
 ghost use Rattle.reo_net.specs.Checks.{IsCircuit};
 ghost use Rattle.reo_net.specs.Regions.{Automaton as AnyAutomaton};
+ghost use Rattle.reo_automata.specs.NodeNames.{AreNodeNames};
 ghost use Rattle.reo_cut.specs.Cut.{IsCut};
 ghost use Rattle.reo_product.specs.Region.{AreMembers};
 ghost use Rattle.reo_session.specs.Prepared.{AreRegionTables, Declines, DeclinesRegion, IsPrepared, IsTableOfRegion, of_check, of_table};
 
+use reo_automata::{NodeNames, names_of_nodes};
 use reo_cut::{Cut, cut_of};
 use reo_net::{CheckRefusal, Net, RawCircuit, check};
 use reo_product::{Members, ProductRefusal, RegionTable, members_of, region_table_of};
@@ -80,14 +82,16 @@ fn table_at(
     net: &Net,
     cut: &Cut,
     members: &Members,
+    node_names: &NodeNames,
     region: u32,
 ) -> Result<RegionTable, SessionRefusal>
     requires cut { IsCut net.now cut.now }
     requires members { AreMembers cut.now.region_of cut.now.regions members.now }
+    requires node_names { AreNodeNames net.now node_names.now }
     ensures table { IfOk result (λ table. (is_cut : IsCut net.now cut.now) (root : AnyAutomaton) → slice_get is_cut.roots region ≡ Some root → IsTableOfRegion net.now region root table) }
     ensures refused { IfErr result (λ why. (is_cut : IsCut net.now cut.now) (root : AnyAutomaton) → slice_get is_cut.roots region ≡ Some root → DeclinesRegion net.now region root why) }
 {
-    match region_table_of(alloc, net, cut, members, region) {
+    match region_table_of(alloc, net, cut, members, node_names, region) {
         Ok(table) => Ok(table),
         Err(refusal) => Err(refused_table(refusal)),
     }
@@ -108,9 +112,10 @@ fn tables_of(alloc: Global, net: &Net, cut: &Cut) -> Result<Items<RegionTable>, 
 {
     let _ = net.nodes();
     let members = members_of(alloc, net, cut)?;
+    let node_names = names_of_nodes(alloc, net)?;
     let mut tables = Items::new(alloc);
     for region in 0..cut.regions {
-        let table = table_at(alloc, net, cut, &members, region)?;
+        let table = table_at(alloc, net, cut, &members, &node_names, region)?;
         keep(&mut tables, table)?;
     }
     Ok(tables)

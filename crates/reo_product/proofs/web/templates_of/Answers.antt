@@ -10,7 +10,7 @@ loop-number-preserved c =
     let net = c.args.net.now in
     let automata = c.args.automata.now in
     let i = c.loop-number.number-index in
-    let template = c.in_ok-template_of.field-0 in
+    let template = c.in_ok-template_by.field-0 in
     subst (AreTemplates net (take (i + 1) automata)) (sym c.in_ok-push.ensures.items)
     (subst (λ list. AreTemplates net list (c.loop-number.templates.items ++ template ∷ [])) (sym (take_more automata i 0 c.loop-number-test.true))
-    (paired_push (λ x. IsTemplate net (automaton_of net x)) (take i automata) c.loop-number.templates.items (get_or automata i 0) template c.loop-number.invariant c.in_ok-template_of.ensures.exact))
+    (paired_push (λ x. IsTemplate net (automaton_of net x)) (take i automata) c.loop-number.templates.items (get_or automata i 0) template c.loop-number.invariant c.in_ok-template_by.ensures.exact))
