@@ -4,7 +4,8 @@ use Rattle.std.specs.List.{list_all}
 use Rattle.std.specs.Option.{option_map_or}
 use Rattle.std.specs.Int.RustNames.{bit_and}
 use Rattle.std.proofs.lemmas.Bool.{lt-ltb, le-ltb}
-use Rattle.std.proofs.lemmas.Option.{same_Some}
+use Rattle.std.proofs.lemmas.Option.{same_Some, slice_get-get_or, slice_get_within, get_or_from_slice_get}
+use Rattle.std.proofs.lemmas.List.{length-map, get_or-map}
 use Rattle.std.proofs.lemmas.List.Sums.{position_or_len_is}
 use Rattle.reo_net.specs.declared.circuit.RawCircuit.{RawCircuit}
 use Rattle.reo_fabric.specs.declared.reading.Reading.{Reading}
@@ -17,10 +18,11 @@ use Rattle.reo_plan.specs.declared.asks.Asks.{Asks}
 use Rattle.reo_plan.specs.declared.asks.Shared.{Shared}
 use Rattle.reo_plan.specs.declared.marks.Marks.{Marks}
 use Rattle.reo_plan.specs.inside.Slots.{slot_at, slot_value, AreOrdered, Extends, HasFlow}
-use Rattle.reo_plan.specs.inside.Marks.{AreMarks}
+use Rattle.reo_plan.specs.inside.Marks.{AreMarks, low_half, shares}
 use Rattle.reo_plan.specs.inside.Plans.{fits}
-use Rattle.reo_plan.specs.inside.Asks.{so_in, number_so, IsSameFact, IsNumbered, HasAsks, IsAsks, AreAsks, AreShared}
+use Rattle.reo_plan.specs.inside.Asks.{so_in, number_so, IsSameFact, IsNumbered, HasAsks, IsAsks, AreAsks, IsShared, AreShared, low_mask}
 use Rattle.reo_plan.proofs.FactLemmas.{all-append}
+use Rattle.reo_plan.proofs.MarkLemmas.{shares_whole}
 use Rattle.reo_plan.proofs.SlotLemmas.{kept_value, get-extended, extends_same, extends_on}
 
 -- what is so where all went well
@@ -97,7 +99,7 @@ asks-push c slots facts (r ∷ rows) (a ∷ all) row asks are is = (are.0, asks-
 asks-push c slots facts [] (a ∷ all) row asks are is = absurd are
 asks-push c slots facts (r ∷ rows) [] row asks are is = absurd are
 
-pub shared-push : (c : RawCircuit) (plans : List (List Row)) (all : List Shared) (rows : List Row) (shared : Shared) → AreShared c plans all → AreAsks c shared.slots shared.facts rows shared.asks → AreShared c (plans ++ rows ∷ []) (all ++ shared ∷ [])
+pub shared-push : (c : RawCircuit) (plans : List (List Row)) (all : List Shared) (rows : List Row) (shared : Shared) → AreShared c plans all → IsShared c rows shared → AreShared c (plans ++ rows ∷ []) (all ++ shared ∷ [])
 shared-push c [] [] rows shared are is = (is, tt)
 shared-push c (r ∷ plans) (s ∷ all) rows shared are is = (are.0, shared-push c plans all rows shared are.1 is)
 shared-push c [] (s ∷ all) rows shared are is = absurd are
@@ -111,9 +113,9 @@ asks_at c slots facts (r ∷ rows) (a ∷ all) are (suc i) row found = asks_at c
 asks_at c slots facts [] (a ∷ all) are i row found = absurd are
 asks_at c slots facts (r ∷ rows) [] are i row found = absurd are
 
-pub shared_at : (c : RawCircuit) (plans : List (List Row)) (all : List Shared) → AreShared c plans all → (region : ℕ) (rows : List Row) → slice_get plans region ≡ Some rows → (shared : Shared) × (slice_get all region ≡ Some shared) × AreAsks c shared.slots shared.facts rows shared.asks
+pub shared_at : (c : RawCircuit) (plans : List (List Row)) (all : List Shared) → AreShared c plans all → (region : ℕ) (rows : List Row) → slice_get plans region ≡ Some rows → (shared : Shared) × (slice_get all region ≡ Some shared) × IsShared c rows shared
 shared_at c [] [] are region rows found = cc
-shared_at c (r ∷ plans) (s ∷ all) are zero rows found = (s, refl, subst (λ x. AreAsks c s.slots s.facts x s.asks) (same_Some r rows found) are.0)
+shared_at c (r ∷ plans) (s ∷ all) are zero rows found = (s, refl, subst (λ x. IsShared c x s) (same_Some r rows found) are.0)
 shared_at c (r ∷ plans) (s ∷ all) are (suc region) rows found = shared_at c plans all are.1 region rows found
 shared_at c [] (s ∷ all) are region rows found = absurd are
 shared_at c (r ∷ plans) [] are region rows found = absurd are
@@ -130,6 +132,26 @@ module _ (c : RawCircuit) (texts : List (List ℕ)) (reading : Reading) (slots :
       go : (b : Bool) → list_all (number_so c texts reading slots facts) asks.numbers ≡ b → false ≡ fits c texts reading row
       go true e = absurd (shares (is.mask (number_so c texts reading slots facts) marks.failed are.failed e))
       go false e = ap (λ b. b && list_all (so_in c texts reading row.slots) asks.rest) (sym e) ∙ asked_fits
+
+pub asks_long : (c : RawCircuit) (slots : List Giver) (facts : List Fact) (rows : List Row) (all : List Asks) → AreAsks c slots facts rows all → length all ≡ length rows
+asks_long c slots facts [] [] are = refl
+asks_long c slots facts (row ∷ rows) (asks ∷ all) are = ap suc (asks_long c slots facts rows all are.1)
+asks_long c slots facts [] (asks ∷ all) are = absurd are
+asks_long c slots facts (row ∷ rows) [] are = absurd are
+
+module _ (c : RawCircuit) (rows : List Row) (shared : Shared) (is : IsShared c rows shared) where
+  pub masks_long : length shared.masks ≡ length rows
+  masks_long = ap length is.masks ∙ length-map shared.asks low_mask ∙ asks_long c shared.slots shared.facts rows shared.asks is.asks
+
+  -- a row does not fit that has a failed fact by the low half of its mask
+  pub low_fails : (texts : List (List ℕ)) (reading : Reading) (marks : Marks) → AreMarks (number_so c texts reading shared.slots shared.facts) marks
+      → (k : ℕ) (d : Row) → k < length rows → shares (low_half marks.failed) (get_or shared.masks k 0) ≡ true → fits c texts reading (get_or rows k d) ≡ false
+  low_fails texts reading marks are k d within share =
+      let row = get_or rows k d in
+      let at = asks_at c shared.slots shared.facts rows shared.asks is.asks k row (slice_get-get_or rows k d within) in
+      let mask : get_or shared.masks k 0 ≡ low_mask at.0 =
+      ap (λ xs. get_or xs k 0) is.masks ∙ get_or-map low_mask shared.asks k at.0 0 (slice_get_within shared.asks k at.0 at.1) ∙ ap low_mask (get_or_from_slice_get shared.asks k at.0 at.0 at.1) in
+      sym (masked_fails c texts reading shared.slots shared.facts row at.0 at.2 marks are (shares_whole marks.failed at.0.mask (sym (ap (shares (low_half marks.failed)) mask) ∙ share)))
 
 -- the first that passes
 pub position_some : {A : Type 0} (p : A → Bool) (xs : List A) (i : ℕ) (d : A) → i < length xs → ((k : ℕ) → k < i → p (get_or xs k d) ≡ false) → p (get_or xs i d) ≡ true → Some i ≡ position p xs

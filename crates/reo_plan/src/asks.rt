@@ -1,13 +1,13 @@
 //! What the firings of a region ask, by the numbers of the facts that they share.
-ghost use Rattle.std.specs.Prelude.{◌≡◌, ◌+◌, List, ◌∷◌, [], ◌++◌, slice_get, Some, IfOk, IfSome, OnOk, Bool, ◌&&◌};
+ghost use Rattle.std.specs.Prelude.{◌≡◌, ◌+◌, map, List, ◌∷◌, [], ◌++◌, slice_get, Some, IfOk, IfSome, OnOk, Bool, ◌&&◌};
 ghost use Rattle.std.specs.List.{list_all};
 ghost use Rattle.reo_net.specs.declared.circuit.RawCircuit.{RawCircuit};
 ghost use Rattle.reo_flow.specs.declared.fact.Fact.{Fact as AnyFact};
 ghost use Rattle.reo_plan.specs.inside.Slots.{slot_at, AreOrdered, AreMore, Extends, HasFlow};
-ghost use Rattle.reo_plan.specs.inside.Asks.{is_direct, is_presence, IsSameFact, IsNumbered, HasAsks, IsAsks, AreAsks, AreShared};
+ghost use Rattle.reo_plan.specs.inside.Asks.{is_direct, is_presence, IsSameFact, IsNumbered, HasAsks, IsAsks, IsShared, AreShared, low_mask};
 
 use crate::facts::is_same;
-use crate::marks::mask_of;
+use crate::marks::{low_half, mask_of};
 use crate::row::Row;
 use crate::slots::{Givers, giver_at, slot_of};
 use reo_flow::{Fact, Giver};
@@ -28,6 +28,8 @@ pub(crate) struct Shared {
     pub(crate) slots: Items<Giver>,
     pub(crate) facts: Items<Fact>,
     pub(crate) asks: Items<Asks>,
+    /// Of each mask of the asks the low half, one behind the other: so many are looked at together.
+    pub(crate) masks: Items<u32>,
 }
 
 fn is_direct(giver: &Giver) -> bool
@@ -261,9 +263,20 @@ fn presence_of_all(
     Ok(())
 }
 
+/// The low halves of the masks.
+fn masks_of(alloc: Global, asks: &[Asks]) -> Result<Items<u32>, AllocError>
+    ensures { IfOk result (λ masks. masks ≡ map low_mask asks.now) }
+{
+    let mut masks = Items::new(alloc);
+    for own in asks {
+        masks.push(low_half(own.mask))?;
+    }
+    Ok(masks)
+}
+
 /// What the rows of a region ask.
 fn shared_by(alloc: Global, rows: &[Row]) -> Result<Shared, AllocError>
-    ensures { IfOk result (λ shared. (c : RawCircuit) → AreAsks c shared.slots shared.facts rows.now shared.asks) }
+    ensures { IfOk result (λ shared. (c : RawCircuit) → IsShared c rows.now shared) }
 {
     let mut slots = Items::new(alloc);
     let mut facts = Items::new(alloc);
@@ -273,7 +286,13 @@ fn shared_by(alloc: Global, rows: &[Row]) -> Result<Shared, AllocError>
         let own = asks_of(alloc, &mut slots, &mut facts, row)?;
         asks.push(own)?;
     }
-    Ok(Shared { slots, facts, asks })
+    let masks = masks_of(alloc, asks.as_slice())?;
+    Ok(Shared {
+        slots,
+        facts,
+        asks,
+        masks,
+    })
 }
 
 /// What the rows of all regions ask.

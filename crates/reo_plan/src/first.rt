@@ -1,13 +1,13 @@
 //! The first of a region's firings that a reading allows.
-ghost use Rattle.std.specs.Prelude.{◌≡◌, position};
+ghost use Rattle.std.specs.Prelude.{◌≡◌, ◌≤◌, ◌+◌, length, position, true};
 ghost use Rattle.std.specs.List.{list_all};
-ghost use Rattle.reo_plan.specs.inside.Marks.{AreMarks};
-ghost use Rattle.reo_plan.specs.inside.Asks.{so_in, number_so, IsAsks, AreAsks};
+ghost use Rattle.reo_plan.specs.inside.Marks.{AreMarks, AllShare, shares};
+ghost use Rattle.reo_plan.specs.inside.Asks.{so_in, number_so, IsAsks, IsShared};
 ghost use Rattle.reo_plan.specs.inside.Plans.{fits};
 
 use crate::asks::{Asks, Shared};
 use crate::evaluate::is_so;
-use crate::marks::{Marks, is_known, mark, no_marks};
+use crate::marks::{Marks, is_known, low_half, mark, no_marks};
 use crate::row::Row;
 use reo_fabric::Reading;
 use reo_flow::{Fact, Giver};
@@ -117,7 +117,34 @@ fn row_fits(
     )
 }
 
-/// The first row of which all facts are so. A row with a fact that has failed is passed over by one look at its mask.
+/// How many masks are looked at together.
+const STRIDE: usize = 64;
+
+/// Whether each of these masks shares a bit with the word. All are looked at, many at once.
+fn all_share(masks: &[u32], word: u32) -> bool
+    ensures { result ≡ list_all (shares word) masks.now }
+{
+    let mut all = true;
+    for mask in masks {
+        all &= *mask & word != 0;
+    }
+    all
+}
+
+/// Whether a run of rows begins here that all ask what has failed.
+fn run_fails(masks: &[u32], row: usize, failed: u32) -> bool
+    requires { row ≤ length masks.now }
+    ensures within { result ≡ true → row + 64 ≤ length masks.now }
+    ensures share { result ≡ true → AllShare failed masks.now row (row + 64) }
+{
+    if row % STRIDE != 0 {
+        return false;
+    }
+    masks.len() - row >= STRIDE && all_share(&masks[row..row + STRIDE], failed)
+}
+
+/// The first row of which all facts are so. A row with a fact that has failed is passed over by one look at its mask,
+/// and many such rows by one look at all of theirs.
 pub(crate) fn first_row(
     net: &Net,
     texts: &Lexicon,
@@ -125,16 +152,22 @@ pub(crate) fn first_row(
     shared: &Shared,
     rows: &[Row],
 ) -> Option<usize>
-    requires { AreAsks net.now shared.now.slots shared.now.facts rows.now shared.now.asks }
+    requires { IsShared net.now rows.now shared.now }
     ensures { result ≡ position (fits net.now texts.now reading.now) rows.now }
 {
     let mut marks = no_marks();
     let asks = shared.asks.as_slice();
-    for row in 0..rows.len() {
-        if row_fits(
+    let masks = shared.masks.as_slice();
+    let mut row = 0;
+    while row < rows.len() {
+        if run_fails(masks, row, low_half(marks.failed)) {
+            row += STRIDE;
+        } else if row_fits(
             net, texts, reading, shared, &mut marks, &rows[row], &asks[row],
         ) {
             return Some(row);
+        } else {
+            row += 1;
         }
     }
     None

@@ -1,5 +1,5 @@
 -- What firings ask, by the numbers of the facts that they share: each fact has its datum in a slot that they share too.
-use Rattle.std.specs.Prelude.{◌≡◌, ℕ, List, [], ◌∷◌, slice_get, Bool, true, false, ◌&&◌}
+use Rattle.std.specs.Prelude.{◌≡◌, ℕ, map, List, [], ◌∷◌, slice_get, Bool, true, false, ◌&&◌}
 use Rattle.std.specs.List.{list_all}
 use Rattle.std.specs.Option.{option_map_or}
 use Rattle.reo_net.specs.declared.circuit.RawCircuit.{RawCircuit}
@@ -13,7 +13,7 @@ use Rattle.reo_plan.specs.declared.row.Row.{Row}
 use Rattle.reo_plan.specs.declared.asks.Asks.{Asks}
 use Rattle.reo_plan.specs.declared.asks.Shared.{Shared}
 use Rattle.reo_plan.specs.inside.Slots.{slot_at, slot_value, Extends}
-use Rattle.reo_plan.specs.inside.Marks.{IsMask}
+use Rattle.reo_plan.specs.inside.Marks.{IsMask, low_half}
 
 -- no function gives this
 abbrev pub is_direct : Giver → Bool
@@ -68,8 +68,17 @@ AreAsks c slots facts (row ∷ rows) (asks ∷ all) = IsAsks c slots facts row a
 AreAsks c slots facts [] (asks ∷ all) = ⊥
 AreAsks c slots facts (row ∷ rows) [] = ⊥
 
+-- the low half of a mask
+abbrev pub low_mask : Asks → ℕ
+low_mask asks = low_half asks.mask
+
+-- these are the asks of the rows, and the low halves of their masks
+pub record IsShared (c : RawCircuit) (rows : List Row) (shared : Shared) : Type 0 where
+  pub asks : AreAsks c shared.slots shared.facts rows shared.asks
+  pub masks : shared.masks ≡ map low_mask shared.asks
+
 abbrev pub AreShared : RawCircuit → List (List Row) → List Shared → Type 0
 AreShared c [] [] = Unit {0}
-AreShared c (rows ∷ plans) (shared ∷ all) = AreAsks c shared.slots shared.facts rows shared.asks × AreShared c plans all
+AreShared c (rows ∷ plans) (shared ∷ all) = IsShared c rows shared × AreShared c plans all
 AreShared c [] (shared ∷ all) = ⊥
 AreShared c (rows ∷ plans) [] = ⊥

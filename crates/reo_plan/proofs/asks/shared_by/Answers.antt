@@ -1,6 +1,7 @@
-use Rattle.std.proofs.Common.{◌++◌, ◌∷◌, [], ◌+◌, Some, take, sym, ap, ◌∙◌, subst, arith}
+use Rattle.std.proofs.Common.{◌++◌, ◌∷◌, [], ◌+◌, Some, map, take, sym, ap, ◌∙◌, subst, arith}
+use Rattle.std.proofs.lemmas.List.{take_all}
 use Rattle.std.proofs.lemmas.Option.{slice_get-get_or}
-use Rattle.reo_plan.specs.inside.Asks.{AreAsks}
+use Rattle.reo_plan.specs.inside.Asks.{AreAsks, low_mask}
 use Rattle.reo_plan.proofs.AskLemmas.{kept_asks, asks-push}
 use Rattle.reo_plan.proofs.PlaceSlotLemmas.{take_more}
 use Rattle.reo_plan.proofs.asks.shared_by.Goals as goal
@@ -19,3 +20,9 @@ loop-row-preserved c =
           (subst (λ l. AreAsks c' slots facts l (c.loop-row.asks ++ c.in_ok-own.own ∷ [])) (sym (take_more rows n row found))
           (asks-push c' slots facts (take n rows) c.loop-row.asks row c.in_ok-own.own (kept_asks c' c.loop-row.slots slots c.loop-row.facts facts more.slots.extends more.facts (take n rows) c.loop-row.asks (c.loop-row.invariant.1 c')) (more.asks c'))),
     )
+
+pub returns : goal.returns
+returns c = λ c'. record {
+  asks = subst (λ l. AreAsks c' c.loop-row.slots c.loop-row.facts l c.loop-row.asks) (take_all c.loop-row.row-index c.args.rows.now (omega arith)) (c.loop-row.invariant.1 c');
+  masks = c.in_ok-masks.ensures ∙ ap (map low_mask) c.as_slice.ensures;
+}

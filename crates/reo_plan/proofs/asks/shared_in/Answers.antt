@@ -1,6 +1,6 @@
 use Rattle.std.proofs.Common.{◌++◌, ◌∷◌, [], ◌+◌, Some, take, sym, ap, ◌∙◌, subst, arith}
 use Rattle.std.proofs.lemmas.Option.{slice_get-get_or}
-use Rattle.reo_plan.specs.inside.Asks.{AreAsks, AreShared}
+use Rattle.reo_plan.specs.inside.Asks.{IsShared, AreShared}
 use Rattle.reo_plan.proofs.AskLemmas.{shared-push}
 use Rattle.reo_plan.proofs.PlaceSlotLemmas.{take_more}
 use Rattle.reo_plan.proofs.asks.shared_in.Goals as goal
@@ -14,4 +14,4 @@ loop-rows-preserved c =
     let shared = c.in_ok-shared.shared in
     λ c'. subst (AreShared c' (take (n + 1) plans)) (sym c.in_ok-push.ensures.ok)
     (subst (λ l. AreShared c' l (c.loop-rows.all ++ shared ∷ [])) (sym (take_more plans n rows found))
-    (shared-push c' (take n plans) c.loop-rows.all rows shared (c.loop-rows.invariant c') (subst (λ rs. AreAsks c' shared.slots shared.facts rs shared.asks) c.as_slice.ensures (c.in_ok-shared.ensures c'))))
+    (shared-push c' (take n plans) c.loop-rows.all rows shared (c.loop-rows.invariant c') (subst (λ rs. IsShared c' rs shared) c.as_slice.ensures (c.in_ok-shared.ensures c'))))

@@ -1,19 +1,43 @@
-use Rattle.std.proofs.Common.{◌≡◌, slice_get, Some, sym, ap, ◌∙◌, subst, arith}
+use Rattle.std.proofs.Common.{◌≡◌, ◌+◌, ◌≤◌, ⊎_elim, length, slice_get, Some, sym, ap, ◌∙◌, subst, arith}
 use Rattle.std.proofs.lemmas.Option.{slice_get-get_or, slice_get_within, get_or_from_slice_get}
+use Rattle.std.proofs.lemmas.Bool.{cases_lt}
+use Rattle.reo_plan.specs.inside.Marks.{AllShare, low_half}
 use Rattle.reo_plan.specs.inside.Plans.{fits}
 use Rattle.reo_plan.specs.inside.Asks.{number_so, IsAsks}
-use Rattle.reo_plan.proofs.AskLemmas.{asks_at, position_some, position_none}
+use Rattle.reo_plan.proofs.AskLemmas.{asks_at, masks_long, low_fails, position_some, position_none}
 use Rattle.reo_plan.proofs.first.first_row.Goals as goal
 
 pub loop-row-init : goal.loop-row-init
-loop-row-init c = (c.no_marks-marks.ensures (number_so c.args.net.now c.args.texts.now c.args.reading.now c.args.shared.now.slots c.args.shared.now.facts), λ k d less. absurd (omega (arith, less)))
+loop-row-init c = record {
+  within = omega arith;
+  marks = c.no_marks-marks.ensures (number_so c.args.net.now c.args.texts.now c.args.reading.now c.args.shared.now.slots c.args.shared.now.facts);
+  before = λ k d less. absurd (omega (arith, less));
+}
+
+pub run_fails-requires : goal.run_fails-requires
+run_fails-requires c = omega (arith, c.loop-row.invariant.within, masks_long c.args.net.now c.args.rows.now c.args.shared.now c.requires, ap length c.as_slice-masks.ensures)
+
+pub loop-row-preserved-then-run_fails : goal.loop-row-preserved-then-run_fails
+loop-row-preserved-then-run_fails c =
+    let rows = c.args.rows.now in
+    let masks = c.as_slice-masks.result.now in
+    let long : length masks ≡ length rows = ap length c.as_slice-masks.ensures ∙ masks_long c.args.net.now rows c.args.shared.now c.requires in
+    let within : c.loop-row.row + 64 ≤ length rows = omega (arith, c.run_fails.ensures.within c.if-run_fails.true, long) in
+    let share : AllShare (low_half c.loop-row.marks.failed) c.args.shared.now.masks c.loop-row.row (c.loop-row.row + 64) =
+    subst (λ word. AllShare word c.args.shared.now.masks c.loop-row.row (c.loop-row.row + 64)) c.low_half.ensures
+    (subst (λ l. AllShare c.low_half.result l c.loop-row.row (c.loop-row.row + 64)) c.as_slice-masks.ensures (c.run_fails.ensures.share c.if-run_fails.true)) in record {
+      within = within;
+      marks = c.loop-row.invariant.marks;
+      before = λ k d less. ⊎_elim (λ early. c.loop-row.invariant.before k d early)
+          (λ late. low_fails c.args.net.now rows c.args.shared.now c.requires c.args.texts.now c.args.reading.now c.loop-row.marks c.loop-row.invariant.marks k d (omega (arith, less, within)) (share k late less)) (cases_lt k c.loop-row.row);
+    }
 
 pub bounds-asks-row : goal.bounds-asks-row
 bounds-asks-row c =
     let rows = c.args.rows.now in
     let row = c.index-rows-row.result in
     let found = slice_get-get_or rows c.loop-row.row row (omega arith) ∙ ap Some (sym c.index-rows-row.is) in
-    let at = asks_at c.args.net.now c.args.shared.now.slots c.args.shared.now.facts rows c.args.shared.now.asks c.requires c.loop-row.row row found in
+    let at = asks_at c.args.net.now c.args.shared.now.slots c.args.shared.now.facts rows c.args.shared.now.asks c.requires.asks c.loop-row.row row found in
     slice_get_within c.as_slice-asks.result.now c.loop-row.row at.0 (ap (λ all. slice_get all c.loop-row.row) c.as_slice-asks.ensures ∙ at.1)
 
 pub row_fits-requires-clause-asks : goal.row_fits-requires-clause-asks
@@ -21,7 +45,7 @@ row_fits-requires-clause-asks c =
     let rows = c.args.rows.now in
     let row = c.index-rows-row.result in
     let found = slice_get-get_or rows c.loop-row.row row (omega arith) ∙ ap Some (sym c.index-rows-row.is) in
-    let at = asks_at c.args.net.now c.args.shared.now.slots c.args.shared.now.facts rows c.args.shared.now.asks c.requires c.loop-row.row row found in
+    let at = asks_at c.args.net.now c.args.shared.now.slots c.args.shared.now.facts rows c.args.shared.now.asks c.requires.asks c.loop-row.row row found in
     let same : c.index-asks-row.result ≡ at.0 =
     c.index-asks-row.is ∙ get_or_from_slice_get c.as_slice-asks.result.now c.loop-row.row at.0 _ (ap (λ all. slice_get all c.loop-row.row) c.as_slice-asks.ensures ∙ at.1) in
     subst (IsAsks c.args.net.now c.args.shared.now.slots c.args.shared.now.facts row) (sym same) at.2
@@ -29,8 +53,8 @@ row_fits-requires-clause-asks c =
 pub returns-then-row_fits : goal.returns-then-row_fits
 returns-then-row_fits c =
     let row = c.index-rows-row.result in
-    position_some (fits c.args.net.now c.args.texts.now c.args.reading.now) c.args.rows.now c.loop-row.row row (omega arith) (λ k less. c.loop-row.invariant.1 k row less)
+    position_some (fits c.args.net.now c.args.texts.now c.args.reading.now) c.args.rows.now c.loop-row.row row (omega arith) (λ k less. c.loop-row.invariant.before k row less)
     (ap (fits c.args.net.now c.args.texts.now c.args.reading.now) (sym c.index-rows-row.is) ∙ sym c.row_fits.ensures.fits ∙ c.if-row_fits.true)
 
 pub returns : goal.returns
-returns c = position_none (fits c.args.net.now c.args.texts.now c.args.reading.now) c.args.rows.now (λ k d less. c.loop-row.invariant.1 k d (omega (arith, less)))
+returns c = position_none (fits c.args.net.now c.args.texts.now c.args.reading.now) c.args.rows.now (λ k d less. c.loop-row.invariant.before k d (omega (arith, less)))

@@ -1,4 +1,4 @@
-use Rattle.std.proofs.Common.{◌≡◌, ℕ, ◌<◌, get_or, false}
+use Rattle.std.proofs.Common.{◌≡◌, ◌-◌, ◌≤◌, ℕ, ◌<◌, get_or, false, length}
 use Rattle.reo_plan.specs.declared.row.Row.{Row}
 use Rattle.reo_plan.specs.inside.Marks.{AreMarks}
 use Rattle.reo_plan.specs.inside.Asks.{number_so}
@@ -6,6 +6,11 @@ use Rattle.reo_plan.specs.inside.Plans.{fits}
 use Rattle.reo_plan.proofs.first.first_row.Given as goal
 
 abbrev pub invariant-loop-row : goal.invariant-loop-row
-invariant-loop-row l =
-    AreMarks (number_so l.net l.texts l.reading l.shared.slots l.shared.facts) l.marks
-    × ((k : ℕ) (d : Row) → k < l.row → fits l.net l.texts l.reading (get_or l.rows k d) ≡ false)
+invariant-loop-row l = record {
+  within : l.row ≤ length l.rows;
+  marks : AreMarks (number_so l.net l.texts l.reading l.shared.slots l.shared.facts) l.marks;
+  before : (k : ℕ) (d : Row) → k < l.row → fits l.net l.texts l.reading (get_or l.rows k d) ≡ false;
+}
+
+abbrev pub decreases-loop-row : goal.decreases-loop-row
+decreases-loop-row l = length l.rows - l.row

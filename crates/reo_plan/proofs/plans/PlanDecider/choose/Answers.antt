@@ -5,8 +5,7 @@ use Rattle.reo_fabric.specs.declared.reading.Choice.{Choice}
 use Rattle.reo_flow.specs.Flow.{planned_choice}
 use Rattle.reo_plan.specs.Plan.{PlanState, firings_in}
 use Rattle.reo_plan.specs.inside.Plans.{fits}
-use Rattle.reo_plan.specs.declared.asks.Shared.{Shared}
-use Rattle.reo_plan.specs.inside.Asks.{AreAsks}
+use Rattle.reo_plan.specs.inside.Asks.{IsShared}
 use Rattle.reo_plan.proofs.AskLemmas.{shared_at}
 use Rattle.reo_plan.proofs.DeciderLaw.{no_choice, choice_of, choice_small}
 use Rattle.reo_plan.proofs.plans.PlanDecider.choose.Goals as goal
@@ -31,7 +30,7 @@ first_row-requires c =
     let at = shared_at net c.self.inside.plans c.self.inside.shared c.self.invariant.2 c.args.region c.in_ok-rows.rows.now found in
     let same : c.index-as_slice-region.result ≡ at.0 =
     c.index-as_slice-region.is ∙ get_or_from_slice_get c.as_slice-2.result.now c.args.region at.0 _ (ap (λ all. slice_get all c.args.region) c.as_slice-2.ensures ∙ at.1) in
-    subst (λ (s : Shared). AreAsks net s.slots s.facts c.as_slice-3.result.now s.asks) (sym same) (subst (λ rows. AreAsks net at.0.slots at.0.facts rows at.0.asks) (sym c.as_slice-3.ensures) at.2)
+    subst (IsShared net c.as_slice-3.result.now) (sym same) (subst (λ rows. IsShared net rows at.0) (sym c.as_slice-3.ensures) at.2)
 
 pub returns-in_err-first : goal.returns-in_err-first
 returns-in_err-first c =
