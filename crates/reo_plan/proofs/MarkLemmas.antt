@@ -45,8 +45,8 @@ shares_whole word mask share apart =
     false≢true (sym (ap (λ n. not (nat_eq n 0)) none) ∙ share)
 
 -- masks of a run that is looked at by itself
-pub run_shares : (word : ℕ) (masks slice : List ℕ) (from n : ℕ) → slice ≡ take n (drop from masks) → n ≡ 64 → from + 64 ≤ length masks → list_all (shares word) slice ≡ true → AllShare word masks from (from + 64)
-run_shares word masks slice from n is sized within all k after below =
+pub run_shares : (word : ℕ) (masks slice : List ℕ) (from to n : ℕ) → slice ≡ take n (drop from masks) → from + n ≡ to → to ≤ length masks → list_all (shares word) slice ≡ true → AllShare word masks from to
+run_shares word masks slice from to n is sized within all k after below =
     let read : get_or slice (k - from) 0 ≡ get_or masks k 0 =
     ap (λ xs. get_or xs (k - from) 0) is ∙ get_or-take n (drop from masks) (k - from) 0 (omega (arith, below, after, sized)) ∙ get_or-drop from masks (k - from) 0
     ∙ ap (λ j. get_or masks j 0) (let e : from + (k - from) ≡ k = omega (arith, after) in e) in

@@ -1,5 +1,5 @@
 //! The first of a region's firings that a reading allows.
-ghost use Rattle.std.specs.Prelude.{◌≡◌, ◌≤◌, ◌+◌, length, position, true};
+ghost use Rattle.std.specs.Prelude.{◌≡◌, ◌≤◌, ◌<◌, length, position, true};
 ghost use Rattle.std.specs.List.{list_all};
 ghost use Rattle.reo_plan.specs.inside.Marks.{AreMarks, AllShare, shares};
 ghost use Rattle.reo_plan.specs.inside.Asks.{so_in, number_so, IsAsks, IsShared};
@@ -131,16 +131,29 @@ fn all_share(masks: &[u32], word: u32) -> bool
     all
 }
 
-/// Whether a run of rows begins here that all ask what has failed.
-fn run_fails(masks: &[u32], row: usize, failed: u32) -> bool
-    requires { row ≤ length masks.now }
-    ensures within { result ≡ true → row + 64 ≤ length masks.now }
-    ensures share { result ≡ true → AllShare failed masks.now row (row + 64) }
+/// The end of the run of rows that begins here.
+fn run_end(from: usize, len: usize) -> usize
+    requires { from < len }
+    ensures after { from < result }
+    ensures within { result ≤ len }
 {
-    if row % STRIDE != 0 {
+    if len - from < STRIDE {
+        len
+    } else {
+        from + STRIDE
+    }
+}
+
+/// Whether this is a whole run of rows that all ask what has failed.
+fn run_fails(masks: &[u32], from: usize, to: usize, failed: u32) -> bool
+    requires from { from ≤ to }
+    requires to { to ≤ length masks.now }
+    ensures { result ≡ true → AllShare failed masks.now from to }
+{
+    if to - from != STRIDE {
         return false;
     }
-    masks.len() - row >= STRIDE && all_share(&masks[row..row + STRIDE], failed)
+    all_share(&masks[from..from + STRIDE], failed)
 }
 
 /// The first row of which all facts are so. A row with a fact that has failed is passed over by one look at its mask,
@@ -158,17 +171,19 @@ pub(crate) fn first_row(
     let mut marks = no_marks();
     let asks = shared.asks.as_slice();
     let masks = shared.masks.as_slice();
-    let mut row = 0;
-    while row < rows.len() {
-        if run_fails(masks, row, low_half(marks.failed)) {
-            row += STRIDE;
-        } else if row_fits(
-            net, texts, reading, shared, &mut marks, &rows[row], &asks[row],
-        ) {
-            return Some(row);
-        } else {
-            row += 1;
+    let mut from = 0;
+    while from < rows.len() {
+        let to = run_end(from, rows.len());
+        if !run_fails(masks, from, to, low_half(marks.failed)) {
+            for row in from..to {
+                if row_fits(
+                    net, texts, reading, shared, &mut marks, &rows[row], &asks[row],
+                ) {
+                    return Some(row);
+                }
+            }
         }
+        from = to;
     }
     None
 }

@@ -1,4 +1,4 @@
-use Rattle.std.proofs.Common.{◌≡◌, ◌+◌, ◌≤◌, ⊎_elim, length, slice_get, Some, sym, ap, ◌∙◌, subst, arith}
+use Rattle.std.proofs.Common.{◌≡◌, ⊎_elim, length, slice_get, Some, sym, ap, ◌∙◌, subst, arith}
 use Rattle.std.proofs.lemmas.Option.{slice_get-get_or, slice_get_within, get_or_from_slice_get}
 use Rattle.std.proofs.lemmas.Bool.{cases_lt}
 use Rattle.reo_plan.specs.inside.Marks.{AllShare, low_half}
@@ -7,29 +7,28 @@ use Rattle.reo_plan.specs.inside.Asks.{number_so, IsAsks}
 use Rattle.reo_plan.proofs.AskLemmas.{asks_at, masks_long, low_fails, position_some, position_none}
 use Rattle.reo_plan.proofs.first.first_row.Goals as goal
 
-pub loop-row-init : goal.loop-row-init
-loop-row-init c = record {
+pub loop-from-init : goal.loop-from-init
+loop-from-init c = record {
   within = omega arith;
   marks = c.no_marks-marks.ensures (number_so c.args.net.now c.args.texts.now c.args.reading.now c.args.shared.now.slots c.args.shared.now.facts);
   before = λ k d less. absurd (omega (arith, less));
 }
 
-pub run_fails-requires : goal.run_fails-requires
-run_fails-requires c = omega (arith, c.loop-row.invariant.within, masks_long c.args.net.now c.args.rows.now c.args.shared.now c.requires, ap length c.as_slice-masks.ensures)
+pub run_fails-requires-clause-to : goal.run_fails-requires-clause-to
+run_fails-requires-clause-to c = omega (arith, c.run_end-to.ensures.within, masks_long c.args.net.now c.args.rows.now c.args.shared.now c.requires, ap length c.as_slice-masks.ensures)
 
-pub loop-row-preserved-then-run_fails : goal.loop-row-preserved-then-run_fails
-loop-row-preserved-then-run_fails c =
+pub loop-from-preserved : goal.loop-from-preserved
+loop-from-preserved c =
     let rows = c.args.rows.now in
-    let masks = c.as_slice-masks.result.now in
-    let long : length masks ≡ length rows = ap length c.as_slice-masks.ensures ∙ masks_long c.args.net.now rows c.args.shared.now c.requires in
-    let within : c.loop-row.row + 64 ≤ length rows = omega (arith, c.run_fails.ensures.within c.if-run_fails.true, long) in
-    let share : AllShare (low_half c.loop-row.marks.failed) c.args.shared.now.masks c.loop-row.row (c.loop-row.row + 64) =
-    subst (λ word. AllShare word c.args.shared.now.masks c.loop-row.row (c.loop-row.row + 64)) c.low_half.ensures
-    (subst (λ l. AllShare c.low_half.result l c.loop-row.row (c.loop-row.row + 64)) c.as_slice-masks.ensures (c.run_fails.ensures.share c.if-run_fails.true)) in record {
-      within = within;
-      marks = c.loop-row.invariant.marks;
-      before = λ k d less. ⊎_elim (λ early. c.loop-row.invariant.before k d early)
-          (λ late. low_fails c.args.net.now rows c.args.shared.now c.requires c.args.texts.now c.args.reading.now c.loop-row.marks c.loop-row.invariant.marks k d (omega (arith, less, within)) (share k late less)) (cases_lt k c.loop-row.row);
+    let from = c.loop-from.from in
+    let to = c.run_end-to.result in
+    let share : AllShare (low_half c.loop-from.marks.failed) c.args.shared.now.masks from to =
+    subst (λ word. AllShare word c.args.shared.now.masks from to) c.low_half.ensures
+    (subst (λ l. AllShare c.low_half.result l from to) c.as_slice-masks.ensures (c.run_fails.ensures c.if-not-run_fails.false)) in record {
+      within = c.run_end-to.ensures.within;
+      marks = c.loop-from.invariant.marks;
+      before = λ k d less. ⊎_elim (λ early. c.loop-from.invariant.before k d early)
+          (λ late. low_fails c.args.net.now rows c.args.shared.now c.requires c.args.texts.now c.args.reading.now c.loop-from.marks c.loop-from.invariant.marks k d (omega (arith, less, c.run_end-to.ensures.within)) (share k late less)) (cases_lt k from);
     }
 
 pub bounds-asks-row : goal.bounds-asks-row
@@ -57,4 +56,4 @@ returns-then-row_fits c =
     (ap (fits c.args.net.now c.args.texts.now c.args.reading.now) (sym c.index-rows-row.is) ∙ sym c.row_fits.ensures.fits ∙ c.if-row_fits.true)
 
 pub returns : goal.returns
-returns c = position_none (fits c.args.net.now c.args.texts.now c.args.reading.now) c.args.rows.now (λ k d less. c.loop-row.invariant.before k d (omega (arith, less)))
+returns c = position_none (fits c.args.net.now c.args.texts.now c.args.reading.now) c.args.rows.now (λ k d less. c.loop-from.invariant.before k d (omega (arith, less)))

@@ -5,12 +5,18 @@ use Rattle.reo_plan.specs.inside.Asks.{number_so}
 use Rattle.reo_plan.specs.inside.Plans.{fits}
 use Rattle.reo_plan.proofs.first.first_row.Given as goal
 
+abbrev pub invariant-loop-from : goal.invariant-loop-from
+invariant-loop-from l = record {
+  within : l.from ≤ length l.rows;
+  marks : AreMarks (number_so l.net l.texts l.reading l.shared.slots l.shared.facts) l.marks;
+  before : (k : ℕ) (d : Row) → k < l.from → fits l.net l.texts l.reading (get_or l.rows k d) ≡ false;
+}
+
+abbrev pub decreases-loop-from : goal.decreases-loop-from
+decreases-loop-from l = length l.rows - l.from
+
 abbrev pub invariant-loop-row : goal.invariant-loop-row
 invariant-loop-row l = record {
-  within : l.row ≤ length l.rows;
   marks : AreMarks (number_so l.net l.texts l.reading l.shared.slots l.shared.facts) l.marks;
   before : (k : ℕ) (d : Row) → k < l.row → fits l.net l.texts l.reading (get_or l.rows k d) ≡ false;
 }
-
-abbrev pub decreases-loop-row : goal.decreases-loop-row
-decreases-loop-row l = length l.rows - l.row
