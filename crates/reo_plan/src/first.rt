@@ -1,5 +1,5 @@
 //! The first of a region's firings that a reading allows.
-ghost use Rattle.std.specs.Prelude.{◌≡◌, ◌≤◌, ◌<◌, length, position, true};
+ghost use Rattle.std.specs.Prelude.{◌≡◌, ◌≤◌, ◌<◌, [], ◌∷◌, length, position, true};
 ghost use Rattle.std.specs.List.{list_all};
 ghost use Rattle.reo_plan.specs.inside.Marks.{AreMarks, AllShare, shares};
 ghost use Rattle.reo_plan.specs.inside.Asks.{so_in, number_so, IsAsks, IsShared};
@@ -156,6 +156,24 @@ fn run_fails(masks: &[u32], from: usize, to: usize, failed: u32) -> bool
     all_share(&masks[from..from + STRIDE], failed)
 }
 
+/// The only row, where all its facts are so: none of them is asked twice.
+#[inline(always)]
+fn only_row(net: &Net, texts: &Lexicon, reading: &Reading, row: &Row) -> Option<usize>
+    ensures { result ≡ position (fits net.now texts.now reading.now) (row.now ∷ []) }
+{
+    if all_so(
+        net,
+        texts,
+        reading,
+        row.slots.as_slice(),
+        row.facts.as_slice(),
+    ) {
+        Some(0)
+    } else {
+        None
+    }
+}
+
 /// The first row of which all facts are so. A row with a fact that has failed is passed over by one look at its mask,
 /// and many such rows by one look at all of theirs.
 pub(crate) fn first_row(
@@ -168,6 +186,9 @@ pub(crate) fn first_row(
     requires { IsShared net.now rows.now shared.now }
     ensures { result ≡ position (fits net.now texts.now reading.now) rows.now }
 {
+    if rows.len() == 1 {
+        return only_row(net, texts, reading, &rows[0]);
+    }
     let mut marks = no_marks();
     let asks = shared.asks.as_slice();
     let masks = shared.masks.as_slice();

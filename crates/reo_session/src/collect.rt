@@ -94,6 +94,7 @@ fn collect_own<D: Decider + Drop>(
 }
 
 /// Takes the answer at a port, where there is one, for the component that waits there, and offers its operation behind.
+#[inline(always)]
 fn collect_at<D: Decider + Drop>(
     engine: &mut PlainEngine<D>,
     watch: &mut Watch,

@@ -90,6 +90,7 @@ pub(crate) fn fire_next<D: Decider + Drop>(
 }
 
 /// Makes a list the same as these places, which are few.
+#[inline(always)]
 fn copy_places(list: &mut Vec<(u32, Value)>, places: &[(u32, Value)]) -> Result<(), AllocError>
     ensures { OnOk result (list.new.items ≡ places.now) }
 {
