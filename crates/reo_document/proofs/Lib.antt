@@ -10,3 +10,5 @@ pub mod BuilderLemmas
 pub mod ReadLemmas
 pub mod RoomLemmas
 pub mod PlainLemmas
+pub mod PlainLineLemmas
+pub mod PastLemmas

@@ -1,12 +1,10 @@
 -- What an operation in its plainest spelling says.
-use Rattle.std.proofs.Common.{◌≡◌, ◌≢◌, ℕ, suc, ◌+◌, ◌-◌, ◌*◌, ◌<◌, ◌≤◌, ◌==◌, nat_le, Bool, true, false, cond, if◌then◌else◌, not, ◌&&◌, ◌||◌, List, [], ◌∷◌, length, take, drop, get_or, codes, Option, Some, None, IfSome, to_z, w64, pos, ℤ, refl, sym, ap, subst, ◌∙◌, arith, add-one, drop-cons, drop_of_length-le}
+use Rattle.std.proofs.Common.{◌≡◌, ◌≢◌, ℕ, suc, ◌+◌, ◌-◌, ◌<◌, ◌≤◌, ◌==◌, nat_le, Bool, true, false, cond, if◌then◌else◌, not, ◌&&◌, ◌||◌, List, [], ◌∷◌, length, take, drop, codes, Option, Some, None, pos, ℤ, refl, sym, ap, subst, ◌∙◌, arith}
 use Rattle.std.specs.List.{list_all}
 use Rattle.std.proofs.Math.Seq.{drop-drop, take-length}
-use Rattle.std.proofs.lemmas.List.{length-take, take_more, take_all}
+use Rattle.std.proofs.lemmas.List.{length-take}
 use Rattle.std.proofs.lemmas.List.Elements.{All-nil, All-cons}
-use Rattle.std.proofs.lemmas.List.Folds.{list_all-append}
 use borrow.Author.Tests.{leb-true}
-use Rattle.std.proofs.lemmas.Int.{to_z_pos}
 use Rattle.std.proofs.lemmas.Bool.{false≢true, eqb-true, lt-ltb, and_from}
 use Rattle.std.specs.Prelude.{slice_range}
 use Rattle.reo_token.specs.declared.token.Token.{Token}
@@ -25,7 +23,7 @@ use Rattle.reo_sentence.specs.declared.said.Name.{Name}
 use Rattle.reo_value.specs.declared.value.Value.{Value}
 use Rattle.reo_document.specs.Builder.{operation_said}
 use Rattle.reo_sentence.specs.declared.said.Sentence.TheVariants as sentence
-use Rattle.reo_sentence.specs.Seen.{decimal_after, decimal_value, number_value}
+use Rattle.reo_sentence.specs.Seen.{decimal_value, number_value}
 use Rattle.reo_sentence.specs.Said.{IsNameIn, StandsIn, name_at}
 use Rattle.reo_sentence.specs.ReadLine.{SaysIt}
 use Rattle.reo_document.specs.Document.{DocumentData}
@@ -34,13 +32,13 @@ use Rattle.reo_document.specs.Reading.{HasSaid}
 use Rattle.reo_sentence.proofs.NameLemmas.{names_in}
 use Rattle.reo_document.specs.Plain.{SaysPlainly, BeginsWith, BeginsWithName, IsPlainNumber, starts_natural}
 
-if_true : {A : Type 0} (p : Bool) (x y : A) → p ≡ true → (if p then x else y) ≡ x
+pub if_true : {A : Type 0} (p : Bool) (x y : A) → p ≡ true → (if p then x else y) ≡ x
 if_true p x y is = ap (λ q. if q then x else y) is
 
-if_false : {A : Type 0} (p : Bool) (x y : A) → p ≡ false → (if p then x else y) ≡ y
+pub if_false : {A : Type 0} (p : Bool) (x y : A) → p ≡ false → (if p then x else y) ≡ y
 if_false p x y is = ap (λ q. if q then x else y) is
 
-both : (p q : Bool) → (p && q) ≡ true → (p ≡ true) × (q ≡ true)
+pub both : (p q : Bool) → (p && q) ≡ true → (p ≡ true) × (q ≡ true)
 both true true is = (refl, refl)
 both true false is = absurd (false≢true is)
 both false q is = absurd (false≢true is)
@@ -50,7 +48,7 @@ or_true true = refl
 or_true false = refl
 
 -- bytes that are others
-other : (byte low : ℕ) → low < byte → (byte == low) ≡ false
+pub other : (byte low : ℕ) → low < byte → (byte == low) ≡ false
 other byte low less = by (byte == low) refl
   where
     by : (same : Bool) → (byte == low) ≡ same → same ≡ false
@@ -71,11 +69,11 @@ not_from low byte less = by (nat_le low byte) refl
     by true is = absurd (omega (arith, leb-true low byte is, less))
     by false is = refl
 
-record IsDigit (byte : ℕ) : Type 0 where
-  low : 48 ≤ byte
-  high : byte ≤ 57
+pub record IsDigit (byte : ℕ) : Type 0 where
+  pub low : 48 ≤ byte
+  pub high : byte ≤ 57
 
-digit : (byte : ℕ) → is_digit byte ≡ true → IsDigit byte
+pub digit : (byte : ℕ) → is_digit byte ≡ true → IsDigit byte
 digit byte is =
     let h = both (nat_le 48 byte) (nat_le byte 57) is in
     record { low = leb-true 48 byte h.0; high = leb-true byte 57 h.1 }
@@ -83,20 +81,18 @@ digit byte is =
 pub digit_low : (byte : ℕ) → is_digit byte ≡ true → 48 ≤ byte
 digit_low byte is = (digit byte is).low
 
+pub digit_high : (byte : ℕ) → is_digit byte ≡ true → byte ≤ 57
+digit_high byte is = (digit byte is).high
+
 no_letter : (byte : ℕ) → IsDigit byte → is_letter byte ≡ false
 no_letter byte is =
     ap (λ p. (p && nat_le byte 90) || (nat_le 97 byte && nat_le byte 122) || (byte == 95)) (not_from 65 byte (omega (arith, is.high)))
     ∙ ap (λ q. (false && nat_le byte 90) || (q && nat_le byte 122) || (byte == 95)) (not_from 97 byte (omega (arith, is.high)))
     ∙ above byte 95 (omega (arith, is.high))
 
-close_at : (byte : ℕ) (bytes : List ℕ) → 32 < byte → blanks (byte ∷ bytes) ≡ 0
+pub close_at : (byte : ℕ) (bytes : List ℕ) → 32 < byte → blanks (byte ∷ bytes) ≡ 0
 close_at byte bytes high =
     ap (λ p. cond (p || (byte == 9)) (1 + blanks bytes) 0) (other byte 32 high) ∙ ap (λ p. cond p (1 + blanks bytes) 0) (other byte 9 (omega (arith, high)))
-
--- The digits read so far.
-pub record ReadSo (digits : List ℕ) (at value : ℕ) : Type 0 where
-  pub so_far : decimal_value digits ≡ decimal_after value (drop at digits)
-  pub all : list_all is_digit (take at digits) ≡ true
 
 run_all : (digits : List ℕ) → list_all is_digit digits ≡ true → run digits ≡ length digits
 run_all [] all = refl
@@ -128,29 +124,6 @@ plain_number (byte ∷ digits) value starts all is small =
       value = if_false (byte == 45) _ _ (other byte 45 (omega (arith, b.low))) ∙ ap pos is;
       in_range = lt-ltb value 4611686018427387904 small;
     }
-
-digits-next : (digits : List ℕ) (at value : ℕ) → at < length digits → decimal_after value (drop at digits) ≡ decimal_after (10 * value + (get_or digits at 0 - 48)) (drop (at + 1) digits)
-digits-next digits at value here = rw (add-one, drop-cons digits at 0) refl
-
-pub read_none : (digits : List ℕ) → ReadSo digits 0 0
-read_none digits = record { so_far = refl; all = refl }
-
-pub read_one : (digits : List ℕ) (at value step : ℕ) → ReadSo digits at value → at < length digits → is_digit (get_or digits at 0) ≡ true → step ≡ get_or digits at 0 - 48
-    → ReadSo digits (at + 1) (10 * value + step)
-read_one digits at value step reads here is_it is = record {
-  so_far = reads.so_far ∙ digits-next digits at value here ∙ ap (λ n. decimal_after (10 * value + n) (drop (at + 1) digits)) (sym is);
-  all =
-      ap (list_all is_digit) (take_more digits at 0 here) ∙ list_all-append is_digit (take at digits) (get_or digits at 0 ∷ [])
-      ∙ and_from (list_all is_digit (take at digits)) (list_all is_digit (get_or digits at 0 ∷ [])) reads.all (and_from (is_digit (get_or digits at 0)) true is_it refl);
-}
-
-pub read_all : (digits : List ℕ) (at value : ℕ) (result : Option ℤ) → ReadSo digits at value → length digits ≤ at → starts_natural digits ≡ true → value < 4611686018427387904
-    → IfSome result (λ n. n ≡ to_z w64 value) → IfSome result (IsPlainNumber digits)
-read_all digits at value None reads over starts small is = tt
-read_all digits at value (Some number) reads over starts small is =
-    subst (IsPlainNumber digits) (sym (is ∙ to_z_pos w64 value (omega (arith, small))))
-    (plain_number digits value starts (ap (list_all is_digit) (sym (take_all at digits over)) ∙ reads.all)
-    (reads.so_far ∙ ap (decimal_after value) (drop_of_length-le digits over)) small)
 
 -- One token more, and the rest.
 abbrev before : Token → List Token × End → List Token × End

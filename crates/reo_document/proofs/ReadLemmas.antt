@@ -149,15 +149,20 @@ pub leads_last : (first d next : DocumentData) (bytes rest line : List ℕ) (num
 unfolding LinesLead
 leads_last first d next bytes rest line number on is goes = on.leads (Goes next) (subst (λ ls. LinesLead d number ls (Goes next)) (sym is) (Goes next, (goes, refl)))
 
-leads_stop : (first d : DocumentData) (bytes rest line : List ℕ) (lines : List (List ℕ)) (number : ℕ) (refusal : TextRefusal) → LeadsOn first bytes d rest number → lines_of rest ≡ line ∷ lines
-    → Leads d number line (Stops refusal) → LinesLead first 1 (lines_of bytes) (Stops refusal)
+stops_first : (d : DocumentData) (bytes line : List ℕ) (lines : List (List ℕ)) (number : ℕ) (refusal : TextRefusal) → lines_of bytes ≡ line ∷ lines → Leads d number line (Stops refusal)
+    → LinesLead d number (lines_of bytes) (Stops refusal)
 unfolding LinesLead
-leads_stop first d bytes rest line lines number refusal on is stops = on.leads (Stops refusal) (subst (λ ls. LinesLead d number ls (Stops refusal)) (sym is) (Stops refusal, (stops, refl)))
+stops_first d bytes line lines number refusal is stops = subst (λ ls. LinesLead d number ls (Stops refusal)) (sym is) (Stops refusal, (stops, refl))
 
-pub leads_stops : (first d : DocumentData) (bytes rest line : List ℕ) (lines : List (List ℕ)) (number : ℕ) (refusal : TextRefusal) → LeadsOn first bytes d rest number → lines_of rest ≡ line ∷ lines
-    → StopsWith d number line refusal → StopsIn first 1 (lines_of bytes) refusal
-leads_stops first d bytes rest line lines number text_refusal.NoMemory on is stops = tt
-leads_stops first d bytes rest line lines number refusal on is stops = leads_stop first d bytes rest line lines number refusal on is stops
+pub stops_in : (d : DocumentData) (bytes line : List ℕ) (lines : List (List ℕ)) (number : ℕ) (refusal : TextRefusal) → lines_of bytes ≡ line ∷ lines → StopsWith d number line refusal
+    → StopsIn d number (lines_of bytes) refusal
+stops_in d bytes line lines number text_refusal.NoMemory is stops = tt
+stops_in d bytes line lines number refusal is stops = stops_first d bytes line lines number refusal is stops
+
+pub leads_stops : (first d : DocumentData) (bytes rest : List ℕ) (number : ℕ) (refusal : TextRefusal) → LeadsOn first bytes d rest number → StopsIn d number (lines_of rest) refusal
+    → StopsIn first 1 (lines_of bytes) refusal
+leads_stops first d bytes rest number text_refusal.NoMemory on stops = tt
+leads_stops first d bytes rest number refusal on stops = on.leads (Stops refusal) stops
 
 pub refusal_of : (d : DocumentData) (bytes : List ℕ) (refusal : TextRefusal) → d ≡ empty → IsUtf8 bytes → StopsIn d 1 (lines_of bytes) refusal → IsRefusalOf bytes refusal
 refusal_of d bytes text_refusal.NoMemory is utf8 stops = tt

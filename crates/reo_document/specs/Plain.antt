@@ -1,17 +1,20 @@
 -- Operations in their plainest spelling.
-use Rattle.std.specs.Prelude.{◌≡◌, ◌≢◌, ℕ, ℤ, ◌≤◌, ◌==◌, nat_lt, Bool, true, false, ◌||◌, List, [], ◌∷◌, length, Option, Some}
+use Rattle.std.specs.Prelude.{◌≡◌, ◌≢◌, ℕ, ℤ, ◌<◌, ◌≤◌, ◌==◌, nat_lt, Bool, true, false, ◌||◌, List, [], ◌∷◌, length, take, get_or, Option, Some}
+use Rattle.std.specs.List.{list_all}
 use Rattle.reo_token.specs.declared.token.Token.{Token}
 use Rattle.reo_token.specs.declared.token.Lexeme.{Lexeme}
 use Rattle.reo_token.specs.declared.token.Lexeme.TheVariants.{Word, Number}
 use Rattle.reo_token.specs.declared.token.End.TheVariants.{Over}
-use Rattle.reo_token.specs.Cut.{blanks, is_over, token_at, cut}
+use Rattle.reo_token.specs.Cut.{blanks, is_over, run, token_at, cut}
+use Rattle.reo_token.specs.Bytes.{is_letter, is_digit}
 use Rattle.reo_grammar.specs.Lines.{Scripts}
 use Rattle.reo_sentence.specs.declared.said.Name.{Name}
 use Rattle.reo_value.specs.declared.value.Value.{Value}
-use Rattle.reo_sentence.specs.Seen.{number_value}
+use Rattle.reo_sentence.specs.Seen.{decimal_value, number_value}
 use Rattle.reo_sentence.specs.Limits.{is_number}
-use Rattle.reo_sentence.specs.Said.{name_at}
+use Rattle.reo_sentence.specs.Said.{IsNameIn, name_at}
 use Rattle.reo_sentence.specs.ReadLine.{SaysIt}
+use Rattle.reo_document.specs.declared.plain.Plain.{Plain}
 use Rattle.reo_document.specs.Builder.{operation_said}
 
 -- behind a component line, the line says this operation, whatever texts are known
@@ -39,11 +42,40 @@ pub record IsPlainNumber (bytes : List ℕ) (number : ℤ) : Type 0 where
   pub value : number_value bytes ≡ number
   pub in_range : is_number number ≡ true
 
--- they are so behind a blank
-abbrev pub IsNumberBehind : List ℕ → ℤ → Type 0
-IsNumberBehind bytes number = (digits : List ℕ) × ((bytes ≡ 32 ∷ digits) × IsPlainNumber digits number)
-
 -- the first digit is above 0, or the only one
 abbrev pub starts_natural : List ℕ → Bool
 starts_natural [] = false
 starts_natural (byte ∷ bytes) = nat_lt 48 byte || (length bytes == 0)
+
+-- the first byte is a letter
+abbrev pub starts_name : List ℕ → Bool
+starts_name [] = false
+starts_name (byte ∷ bytes) = is_letter byte
+
+-- a name of so many bytes stands here, and no longer one
+pub record StandsName (bytes : List ℕ) (len : ℕ) : Type 0 where
+  pub starts : starts_name bytes ≡ true
+  pub all : len ≡ run bytes
+  pub within : len ≤ length bytes
+  pub short : len ≤ 64
+
+-- the first line has so many bytes, an LF (10) behind them, and none below the blank (32)
+pub record EndsLine (bytes : List ℕ) (len : ℕ) : Type 0 where
+  pub within : len < length bytes
+  pub feed : get_or bytes len 0 ≡ 10
+  pub printed : list_all (nat_lt 31) (take len bytes) ≡ true
+
+-- the first line is this natural number, of so many digits
+pub record EndsNatural (bytes : List ℕ) (value len : ℕ) : Type 0 where
+  pub starts : starts_natural (take len bytes) ≡ true
+  pub all : list_all is_digit (take len bytes) ≡ true
+  pub is : decimal_value (take len bytes) ≡ value
+  pub small : value < 1000000000000000000
+  pub within : len < length bytes
+  pub feed : get_or bytes len 0 ≡ 10
+
+-- the first line says this operation
+pub record IsPlain (bytes : List ℕ) (plain : Plain) : Type 0 where
+  pub says : SaysPlainly (take plain.len bytes) (plain.node, plain.value)
+  pub named : IsNameIn (take plain.len bytes) plain.node
+  pub ends : EndsLine bytes plain.len

@@ -1,5 +1,5 @@
 -- Where the reading of a line stops.
-use Rattle.std.specs.Prelude.{◌≡◌, ◌≢◌, ℕ, List, [], Result, OnOk, IfErr}
+use Rattle.std.specs.Prelude.{◌≡◌, ◌≢◌, ℕ, ◌<◌, List, [], ◌∷◌, length, Option, IsUtf8, Result, OnOk, IfErr, IfSome}
 use Rattle.reo_token.specs.declared.token.Token.{Token}
 use Rattle.reo_token.specs.declared.token.End.TheVariants.{Over}
 use Rattle.reo_token.specs.Cut.{cut}
@@ -8,6 +8,8 @@ use Rattle.reo_sentence.specs.ReadLine.{SaysIt}
 use Rattle.reo_document.specs.declared.refusal.TextRefusal.{TextRefusal}
 use Rattle.reo_document.specs.declared.refusal.TextRefusal.TheVariants.{NoMemory}
 use Rattle.reo_document.specs.Document.{DocumentData}
+use Rattle.reo_document.specs.Lines.{lines_of, lines_behind}
+use Rattle.reo_document.specs.Builder.{HasRoom}
 use Rattle.reo_document.specs.Spells.{place_in, Leads, LinesLead, Goes, Stops, IsRefusedAs}
 
 -- the line leads to the refusal; want of memory tells nothing
@@ -38,3 +40,12 @@ LeadsTo now number line it result next = (d : DocumentData) → HasSaid d line n
 
 abbrev pub StopsAs : {V : Type 0} → DocumentData → ℕ → List ℕ → Said → Result V TextRefusal → Type 0
 StopsAs now number line it result = (d : DocumentData) → HasSaid d line now it → IfErr result (StopsWith d number line)
+
+-- the first line of the bytes leads to the next document, and this is left behind it
+pub record GoesPast (d : DocumentData) (number : ℕ) (bytes : List ℕ) (next : DocumentData) (more : Option (List ℕ)) : Type 0 where
+  pub line : List ℕ
+  pub exact : lines_of bytes ≡ line ∷ lines_behind more
+  pub goes : Leads d number line (Goes next)
+  pub fewer : IfSome more (λ rest. length rest < length bytes)
+  pub room : IfSome more (λ rest. HasRoom next (length rest))
+  pub utf8 : IfSome more IsUtf8

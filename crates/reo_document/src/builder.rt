@@ -59,6 +59,7 @@ impl Builder {
     }
 
     /// The node of this name, which often is that of the last operation.
+    #[inline(always)]
     pub(crate) fn node(&self, line: &[u8], name: Name) -> Option<u32>
         requires { IsNameIn line.now name }
         ensures { result ≡ place_of self.now.nodes (name_at line.now name) }
@@ -70,6 +71,7 @@ impl Builder {
     }
 
     // The node of the last operation has this name.
+    #[inline(always)]
     fn is_recent(&self, name: &[u8]) -> bool
         ensures { IsTrue result → place_of self.now.nodes name.now ≡ Some self.now.recent }
     {
@@ -91,6 +93,7 @@ impl Builder {
     }
 
     /// The first port at this node.
+    #[inline(always)]
     pub(crate) fn port(&self, node: Option<u32>) -> Option<(u32, Way)>
         requires { KnowsPorts self.now }
         ensures { result ≡ port_at (data_of self.now) node }
@@ -99,6 +102,7 @@ impl Builder {
     }
 
     // The first port at a node.
+    #[inline(always)]
     fn port_at(&self, node: u32) -> Option<(u32, Way)>
         requires { KnowsPorts self.now }
         ensures { result ≡ port_from 0 self.now.lines.items node }
@@ -110,6 +114,7 @@ impl Builder {
     }
 
     /// Why the last component may not use this port this way, if so.
+    #[inline(always)]
     pub(crate) fn misplaced_at(&self, port: Option<(u32, Way)>, way: Way) -> Option<Misplaced>
         requires { KnowsScripts self.now }
         ensures { result ≡ misplaced_at (data_of self.now) way port }
@@ -130,6 +135,7 @@ impl Builder {
     }
 
     // There are as many operations as a document may have.
+    #[inline(always)]
     fn is_full(&self) -> bool
         requires { KnowsScripts self.now }
         ensures { result ≡ nat_le 100000 (operation_count self.now.scripts.items) }
@@ -138,6 +144,7 @@ impl Builder {
     }
 
     // A component that is not the last one has an operation at the port.
+    #[inline(always)]
     fn is_taken(&self, port: u32) -> bool
         requires { KnowsScripts self.now }
         ensures { result ≡ is_taken self.now.scripts.items port }
@@ -145,6 +152,7 @@ impl Builder {
         is_before(self.scripts.len().saturating_sub(1), self.owner(port))
     }
 
+    #[inline(always)]
     fn owner(&self, port: u32) -> Option<usize>
         ensures { result ≡ noted_at self.now.owners.items port }
     {
@@ -218,6 +226,7 @@ impl Builder {
     }
 
     /// Adds an operation at this port, the first one of the node, to the last script.
+    #[inline(always)]
     pub(crate) fn add_operation(
         &mut self,
         node: Option<u32>,
@@ -244,6 +253,7 @@ impl Builder {
 }
 
 // The number of a port, or 0 where there is none.
+#[inline(always)]
 fn number_at(port: Option<(u32, Way)>) -> u32
     ensures { result ≡ number_at port }
 {
@@ -254,6 +264,7 @@ fn number_at(port: Option<(u32, Way)>) -> u32
 }
 
 // A put of the value at the port, or a get there.
+#[inline(always)]
 fn operation_at(port: u32, value: Option<Value>) -> Op
     ensures { result ≡ operation_at port value }
 {
@@ -290,6 +301,7 @@ pub(crate) fn name_in(line: &[u8], name: Name) -> &str
 }
 
 // Adds an operation to the last script.
+#[inline(always)]
 fn push_last(
     scripts: &mut Vec<Items<Op>>,
     port: u32,
@@ -304,6 +316,7 @@ fn push_last(
     Ok(())
 }
 
+#[inline(always)]
 fn is_before(count: usize, owner: Option<usize>) -> bool
     ensures { result ≡ is_before count owner }
 {
@@ -314,6 +327,7 @@ fn is_before(count: usize, owner: Option<usize>) -> bool
 }
 
 // Notes the component that uses a port, where none did.
+#[inline(always)]
 fn claim(owners: &mut Vec<Option<usize>>, port: u32, owner: usize) -> Result<(), AllocError>
     ensures { OnOk result (Claims owners.old.items owners.new.items port owner) }
 {

@@ -1,37 +1,47 @@
 //! Operations in their plainest spelling, as most are: one blank between two tokens, and none else.
-ghost use Rattle.std.specs.Prelude.{◌≡◌, ◌+◌, ◌≤◌, ◌∷◌, length, true, IfSome};
+ghost use Rattle.std.specs.Prelude.{◌≡◌, ◌+◌, ◌≤◌, ◌∷◌, length, take, true, IfSome, IsTrue};
 ghost use Rattle.reo_token.specs.Bytes as bytes_spec;
 ghost use Rattle.reo_token.specs.Cut as cut_spec;
-ghost use Rattle.reo_sentence.specs.Said.{IsNameIn};
-ghost use Rattle.reo_document.specs.Plain.{SaysPlainly, BeginsWithName, IsPlainNumber, IsNumberBehind, starts_natural};
+ghost use Rattle.reo_document.specs.Plain.{IsPlain, StandsName, EndsNatural, starts_natural};
 
 use reo_sentence::Name;
 use reo_value::{Num, Value};
 
 const LONGEST_NAME: usize = 64;
 
+const LINE_FEED: u8 = b'\n';
+
 const BLANK: u8 = b' ';
 
 const ZERO: u8 = b'0';
 
-// The least natural number that is out of range.
-const LIMIT: u64 = 1 << 62;
+// To a number from here on no digit is added.
+const LIMIT: u64 = 100_000_000_000_000_000;
 
-/// The operation that the line says, where it is one in its plainest spelling, with a natural number for a datum: its node, and what it puts.
-pub(crate) fn plain_operation(line: &[u8]) -> Option<(Name, Option<Value>)>
-    ensures says { IfSome result (SaysPlainly line.now) }
-    ensures name { IfSome result (λ operation. IsNameIn line.now operation.0) }
+/// An operation in its plainest spelling, and the bytes of its line.
+#[derive(Clone, Copy)]
+pub(crate) struct Plain {
+    pub(crate) node: Name,
+    pub(crate) value: Option<Value>,
+    pub(crate) len: usize,
+}
+
+/// The operation that the first line says in its plainest spelling, with a natural number for a datum, where the line ends in a line feed.
+#[inline(always)]
+pub(crate) fn plain_operation(bytes: &[u8]) -> Option<Plain>
+    ensures { IfSome result (IsPlain bytes.now) }
 {
-    if let Some(rest) = behind_word(line, b'p', b'u', b't') {
-        return plain_put(line, rest);
+    if let Some(rest) = behind_word(bytes, b'p', b'u', b't') {
+        return plain_put(bytes, rest);
     }
-    if let Some(rest) = behind_word(line, b'g', b'e', b't') {
-        return plain_get(line, rest);
+    if let Some(rest) = behind_word(bytes, b'g', b'e', b't') {
+        return plain_get(bytes, rest);
     }
     None
 }
 
 // What stands behind a word of these bytes and a blank.
+#[inline(always)]
 fn behind_word(bytes: &[u8], first: u8, second: u8, third: u8) -> Option<&[u8]>
     ensures { IfSome result (λ rest. bytes.now ≡ first ∷ second ∷ third ∷ 32 ∷ rest.now) }
 {
@@ -42,6 +52,7 @@ fn behind_word(bytes: &[u8], first: u8, second: u8, third: u8) -> Option<&[u8]>
 }
 
 // What stands behind this byte.
+#[inline(always)]
 fn behind(bytes: &[u8], byte: u8) -> Option<&[u8]>
     ensures { IfSome result (λ rest. bytes.now ≡ byte ∷ rest.now) }
 {
@@ -50,32 +61,41 @@ fn behind(bytes: &[u8], byte: u8) -> Option<&[u8]>
 }
 
 // Behind `put`: a name and a number.
-fn plain_put(line: &[u8], rest: &[u8]) -> Option<(Name, Option<Value>)>
-    requires { line.now ≡ 112 ∷ 117 ∷ 116 ∷ 32 ∷ rest.now }
-    ensures says { IfSome result (SaysPlainly line.now) }
-    ensures name { IfSome result (λ operation. IsNameIn line.now operation.0) }
+#[inline(always)]
+fn plain_put(bytes: &[u8], rest: &[u8]) -> Option<Plain>
+    requires { bytes.now ≡ 112 ∷ 117 ∷ 116 ∷ 32 ∷ rest.now }
+    ensures { IfSome result (IsPlain bytes.now) }
 {
-    let _line = line;
+    let _bytes = bytes;
     let len = name_len(rest)?;
-    let number = number_behind(&rest[len..])?;
-    Some((name(len), Some(Value::Int(number))))
+    let digits = behind(&rest[len..], BLANK)?;
+    let (value, size) = natural(digits)?;
+    let number = Num::new(value as i64)?;
+    Some(Plain {
+        node: name(len),
+        value: Some(Value::Int(number)),
+        len: 4 + len + 1 + size,
+    })
 }
 
 // Behind `get`: a name.
-fn plain_get(line: &[u8], rest: &[u8]) -> Option<(Name, Option<Value>)>
-    requires { line.now ≡ 103 ∷ 101 ∷ 116 ∷ 32 ∷ rest.now }
-    ensures says { IfSome result (SaysPlainly line.now) }
-    ensures name { IfSome result (λ operation. IsNameIn line.now operation.0) }
+#[inline(always)]
+fn plain_get(bytes: &[u8], rest: &[u8]) -> Option<Plain>
+    requires { bytes.now ≡ 103 ∷ 101 ∷ 116 ∷ 32 ∷ rest.now }
+    ensures { IfSome result (IsPlain bytes.now) }
 {
-    let _line = line;
+    let _bytes = bytes;
     let len = name_len(rest)?;
-    if len < rest.len() {
-        return None;
-    }
-    Some((name(len), None))
+    let _more = behind(&rest[len..], LINE_FEED)?;
+    Some(Plain {
+        node: name(len),
+        value: None,
+        len: 4 + len,
+    })
 }
 
 // The name of so many bytes behind the word.
+#[inline(always)]
 fn name(len: usize) -> Name
     requires { len ≤ 64 }
     ensures start { result.start ≡ 4 }
@@ -88,8 +108,9 @@ fn name(len: usize) -> Name
 }
 
 // How many bytes the name has that begins here, where one does.
+#[inline(always)]
 fn name_len(bytes: &[u8]) -> Option<usize>
-    ensures { IfSome result (BeginsWithName bytes.now) }
+    ensures { IfSome result (StandsName bytes.now) }
 {
     let (first, _) = bytes.split_first()?;
     if !is_letter(*first) {
@@ -103,6 +124,7 @@ fn name_len(bytes: &[u8]) -> Option<usize>
 }
 
 // How many word bytes stand here.
+#[inline(always)]
 fn run(bytes: &[u8]) -> usize
     ensures exact { result ≡ cut_spec.run bytes.now }
     ensures within { result ≤ length bytes.now }
@@ -110,36 +132,61 @@ fn run(bytes: &[u8]) -> usize
     bytes.iter().take_while(|byte| is_word_byte(**byte)).count()
 }
 
+#[inline(always)]
 fn is_letter(byte: u8) -> bool
     ensures { result ≡ bytes_spec.is_letter byte }
 {
     byte.is_ascii_alphabetic() || byte == b'_'
 }
 
+#[inline(always)]
 fn is_digit(byte: u8) -> bool
     ensures { result ≡ bytes_spec.is_digit byte }
 {
     byte.is_ascii_digit()
 }
 
+#[inline(always)]
 fn is_word_byte(byte: u8) -> bool
     ensures { result ≡ bytes_spec.is_word_byte byte }
 {
     is_letter(byte) || is_digit(byte)
 }
 
-// The number behind a blank, where nothing else stands there.
-fn number_behind(bytes: &[u8]) -> Option<Num>
-    ensures { IfSome result (IsNumberBehind bytes.now) }
+// The number that stands here before a line feed, and how many digits it has.
+#[inline(always)]
+fn natural(digits: &[u8]) -> Option<(u64, usize)>
+    ensures { IfSome result (λ it. EndsNatural digits.now it.0 it.1) }
 {
-    let digits = behind(bytes, BLANK)?;
-    if !starts_natural(digits) {
-        return None;
+    let mut value = 0;
+    let mut len = 0;
+    for byte in digits {
+        if !is_digit(*byte) {
+            if !ends_natural(digits, *byte, len) {
+                return None;
+            }
+            return Some((value, len));
+        }
+        if value >= LIMIT {
+            return None;
+        }
+        value = 10 * value + u64::from(*byte - ZERO);
+        len += 1;
     }
-    natural(digits)
+    None
+}
+
+// A natural number of so many digits stands before this byte, which is a line feed.
+#[inline(always)]
+fn ends_natural(digits: &[u8], byte: u8, len: usize) -> bool
+    requires { len ≤ length digits.now }
+    ensures { IsTrue result → (byte ≡ 10) × (starts_natural (take len digits.now) ≡ true) }
+{
+    byte == LINE_FEED && starts_natural(&digits[..len])
 }
 
 // The first digit is above 0, or the only one.
+#[inline(always)]
 fn starts_natural(digits: &[u8]) -> bool
     ensures { result ≡ starts_natural digits.now }
 {
@@ -147,25 +194,4 @@ fn starts_natural(digits: &[u8]) -> bool
         Some((first, more)) => *first > ZERO || more.is_empty(),
         None => false,
     }
-}
-
-// The number that all of these digits are, where it is in range.
-fn natural(digits: &[u8]) -> Option<Num>
-    requires { starts_natural digits.now ≡ true }
-    ensures { IfSome result (IsPlainNumber digits.now) }
-{
-    let mut value = 0;
-    for digit in digits {
-        if !is_digit(*digit) {
-            return None;
-        }
-        if value > LIMIT / 10 {
-            return None;
-        }
-        value = 10 * value + u64::from(*digit - ZERO);
-    }
-    if value >= LIMIT {
-        return None;
-    }
-    Num::new(value as i64)
 }

@@ -6,15 +6,16 @@ ghost use Rattle.reo_grammar.specs.Lines.{Scripts as BehindComponents};
 ghost use Rattle.reo_sentence.specs.Said.{ComponentSaid, IsNameIn, AreNamesIn, name_at, said};
 ghost use Rattle.reo_sentence.specs.LineReading.{place_of};
 ghost use Rattle.reo_document.specs.Placed.{with_said};
-ghost use Rattle.reo_document.specs.Plain.{SaysPlainly};
+ghost use Rattle.std.specs.Option.{option_copied};
+ghost use Rattle.reo_document.specs.Plain.{IsPlain};
 ghost use Rattle.reo_document.specs.Spells.{place_in, refusal_at, Leads, LinesLead, Goes, Spells};
 ghost use Rattle.reo_document.specs.Builder.{data_of, operation_said, way_with, HasRoom, KnowsScripts, KnowsPorts};
-ghost use Rattle.reo_document.specs.Reading.{StopsWith, StopsIn, IsRefusalOf, LeadsTo, StopsAs};
+ghost use Rattle.reo_document.specs.Reading.{GoesPast, StopsWith, StopsIn, IsRefusalOf, LeadsTo, StopsAs};
 ghost use Rattle.reo_document.specs.Lines.{lines_of};
 
 use crate::builder::{Builder, name_in};
 use crate::lines::next_line;
-use crate::plain::plain_operation;
+use crate::plain::{Plain, plain_operation};
 use crate::refusal::{Misplaced, TextRefusal};
 use reo_sentence::{LineRefusal, Name, Place, Sentence, read_line};
 use reo_token::{End, Token, cut_line};
@@ -42,9 +43,6 @@ impl Builder {
         ensures lines { OnOk result (length self.new.lines.items ≤ length self.old.lines.items + 1) }
         ensures room { OnOk result ((more : ℕ) → HasRoom (data_of self.old) (length line.now + 1 + more) → HasRoom (data_of self.new) more) }
     {
-        if let Some((node, value)) = self.plain(line) {
-            return self.operate(line, node, value, number);
-        }
         let Ok(end) = cut_line(tokens, line) else {
             return Err(TextRefusal::NoMemory);
         };
@@ -156,6 +154,7 @@ impl Builder {
     }
 
     // Adds a put of the value at the node of this name, or a get there, where it may stand here.
+    #[inline(always)]
     fn operate(
         &mut self,
         line: &[u8],
@@ -183,16 +182,45 @@ impl Builder {
         }
     }
 
-    // The operation that a line behind a component line says in its plainest spelling.
-    fn plain(&self, line: &[u8]) -> Option<(Name, Option<Value>)>
-        ensures says { IfSome result (SaysPlainly line.now) }
-        ensures name { IfSome result (λ operation. IsNameIn line.now operation.0) }
+    // The operation that the first line, behind a component line, says in its plainest spelling.
+    #[inline(always)]
+    fn plain(&self, bytes: &[u8]) -> Option<Plain>
+        ensures plain { IfSome result (IsPlain bytes.now) }
         ensures place { IfSome result (λ _. place_in (data_of self.now) ≡ BehindComponents) }
     {
         if self.people.is_empty() {
             return None;
         }
-        plain_operation(line)
+        plain_operation(bytes)
+    }
+
+    // Adds the first line, which has this number, and answers what follows it.
+    #[inline(always)]
+    fn read_next<'a>(
+        &mut self,
+        alloc: Global,
+        tokens: &mut Vec<Token>,
+        bytes: &'a [u8],
+        number: u32,
+    ) -> Result<Option<&'a [u8]>, TextRefusal>
+        requires short { length bytes.now < 2 ^ 31 }
+        requires utf8 { IsUtf8 bytes.now }
+        requires room { HasRoom (data_of self.old) (length bytes.now) }
+        requires scripts { KnowsScripts self.old }
+        requires ports { KnowsPorts self.old }
+        ensures goes { IfOk result (λ more. GoesPast (data_of self.old) number bytes.now (data_of self.new) (option_copied more)) }
+        ensures scripts { OnOk result (KnowsScripts self.new) }
+        ensures ports { OnOk result (KnowsPorts self.new) }
+        ensures stops { IfErr result (StopsIn (data_of self.old) number (lines_of bytes.now)) }
+        ensures lines { OnOk result (length self.new.lines.items ≤ length self.old.lines.items + 1) }
+    {
+        if let Some(plain) = self.plain(bytes) {
+            self.operate(&bytes[..plain.len], plain.node, plain.value, number)?;
+            return Ok(Some(&bytes[plain.len + 1..]));
+        }
+        let (line, more) = next_line(bytes);
+        self.read(alloc, tokens, line, number)?;
+        Ok(more)
     }
 
     // Where the next line stands.
@@ -259,9 +287,7 @@ fn read_lines(alloc: Global, builder: &mut Builder, bytes: &[u8]) -> Result<(), 
     let mut rest = bytes;
     let mut number = 1;
     'lines: loop {
-        let (line, more) = next_line(rest);
-        builder.read(alloc, &mut tokens, line, number)?;
-        let Some(more) = more else {
+        let Some(more) = builder.read_next(alloc, &mut tokens, rest, number)? else {
             return Ok(());
         };
         rest = more;

@@ -1,10 +1,8 @@
-use Rattle.std.proofs.Common.{◌+◌, ◌≤◌, length, arith, refl, sym, ap, subst, ◌∙◌}
+use Rattle.std.proofs.Common.{◌+◌, ◌≤◌, length, arith, sym, ap, subst, ◌∙◌}
 use Rattle.reo_token.specs.Cut.{IsEndWithin}
-use Rattle.reo_document.specs.Builder.{data_of, operation_said}
-use Rattle.reo_document.proofs.ReadLemmas.{leads_bad, leads_large, leads_on, no_items, OnOk-same}
-use Rattle.reo_document.proofs.RoomLemmas.{room_less, room_said}
-use Rattle.reo_document.proofs.PlainLemmas.{said_plainly}
-use Rattle.reo_sentence.specs.Said.{name_at}
+use Rattle.reo_document.specs.Builder.{data_of}
+use Rattle.reo_document.proofs.ReadLemmas.{leads_bad, leads_large, leads_on, no_items}
+use Rattle.reo_document.proofs.RoomLemmas.{room_less}
 use Rattle.reo_document.proofs.builder.Builder.read.Goals as goal
 
 pub overflow_add-result : goal.overflow_add-result
@@ -27,19 +25,3 @@ returns-in-Large-clause-stops c =
 pub returns-then-is_empty-clause-room : goal.returns-then-is_empty-clause-room
 returns-then-is_empty-clause-room c =
     λ more room. room_less (data_of c.args.self.now) (length c.args.line.now + 1 + more) more (omega arith) room
-
-pub returns-in-Some-clause-goes : goal.returns-in-Some-clause-goes
-returns-in-Some-clause-goes c =
-    c.operate.ensures.goes (data_of c.args.self.now)
-    (said_plainly (data_of c.args.self.now) c.args.line.now c.in-Some.node c.in-Some.value c.in-Some.ensures.place c.in-Some.ensures.says)
-
-pub returns-in-Some-clause-stops : goal.returns-in-Some-clause-stops
-returns-in-Some-clause-stops c =
-    c.operate.ensures.stops (data_of c.args.self.now)
-    (said_plainly (data_of c.args.self.now) c.args.line.now c.in-Some.node c.in-Some.value c.in-Some.ensures.place c.in-Some.ensures.says)
-
-pub returns-in-Some-clause-room : goal.returns-in-Some-clause-room
-returns-in-Some-clause-room c =
-    OnOk-same c.operate.result c.operate.result refl
-    (λ added. room_said (data_of c.args.self.now) (data_of c.operate.new.self) c.args.self.now.texts (operation_said (name_at c.args.line.now c.in-Some.node) c.in-Some.value) 0 (length c.args.line.now) added (omega arith) (omega arith))
-    c.operate.ensures.exact
