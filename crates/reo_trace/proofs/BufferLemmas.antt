@@ -3,7 +3,7 @@ use Rattle.std.proofs.Common.{◌≡◌, ℕ, ◌+◌, ◌<◌, List, ◌++◌, 
 use Rattle.std.specs.Result.{IsErr}
 use Rattle.std.specs.Prelude.{Vec, OnOk}
 use Rattle.std.specs.List.{flat_map}
-use Rattle.reo_trace.proofs.ListLemmas.{numbered-next, numbered-split, flat_map-numbered}
+use Rattle.reo_trace.proofs.ListLemmas.{numbered-next, numbered-split, flat_map-numbered, flat_map-next}
 use Rattle.reo_trace.specs.Buffer.{HasTaken, LacksRoom, Takes}
 use Rattle.reo_trace.specs.Passes.{numbered}
 
@@ -37,9 +37,7 @@ Takes-trans a b c (Err e) x y p q = LacksRoom-trans a b c x y p q
 pub HasTaken-next : {A Z : Type 0} (f : A → List ℕ) (a b c : Vec ℕ Z) (xs : List A) (i : ℕ) (x d : A) → i < length xs → get_or xs i d ≡ x
     → HasTaken a b (flat_map f (take i xs)) → HasTaken b c (f x) → HasTaken a c (flat_map f (take (i + 1) xs))
 HasTaken-next f a b c xs i x d lt same p q =
-    let e : flat_map f (take (i + 1) xs) ≡ flat_map f (take i xs) ++ f x =
-    flat_map-numbered f 0 (take (i + 1) xs) ∙ numbered-next (λ _. f) xs i x d lt same ∙ ap (λ l. l ++ f x) (sym (flat_map-numbered f 0 (take i xs))) in
-    subst (λ l. HasTaken a c l) (sym e) (HasTaken-trans a b c (flat_map f (take i xs)) (f x) p q)
+    subst (λ l. HasTaken a c l) (sym (flat_map-next f xs i x d lt same)) (HasTaken-trans a b c (flat_map f (take i xs)) (f x) p q)
 
 -- no room for one of a list's texts
 pub LacksRoom-at : {A Z : Type 0} (f : A → List ℕ) (a b c : Vec ℕ Z) (xs : List A) (i : ℕ) (x d : A) → i < length xs → get_or xs i d ≡ x

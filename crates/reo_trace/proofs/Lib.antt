@@ -1,6 +1,8 @@
 pub mod BufferLemmas
+pub mod DigitLemmas
 pub mod EscapeLemmas
 pub mod FrontLemmas
 pub mod ListLemmas
 pub mod PartLemmas
 pub mod ReportLemmas
+pub mod RoomLemmas

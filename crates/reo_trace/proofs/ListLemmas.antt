@@ -40,6 +40,12 @@ pub flat_map-numbered : {A : Type 0} (f : A → List ℕ) (n : ℕ) (xs : List A
 flat_map-numbered f n [] = refl
 flat_map-numbered f n (x ∷ xs) = ap (λ l. f x ++ l) (flat_map-numbered f (n + 1) xs)
 
+-- one more element
+pub flat_map-next : {A : Type 0} (f : A → List ℕ) (xs : List A) (i : ℕ) (x d : A) → i < length xs → get_or xs i d ≡ x
+    → flat_map f (take (i + 1) xs) ≡ flat_map f (take i xs) ++ f x
+flat_map-next f xs i x d lt same =
+    flat_map-numbered f 0 (take (i + 1) xs) ∙ numbered-next (λ _. f) xs i x d lt same ∙ ap (λ l. l ++ f x) (sym (flat_map-numbered f 0 (take i xs)))
+
 -- the lines of steps, and of more steps behind them
 pub step_lines-append : (c : RawCircuit) (nodes texts : List (List ℕ)) (n : ℕ) (steps more : List Step)
     → step_lines c nodes texts n (steps ++ more) ≡ step_lines c nodes texts n steps ++ step_lines c nodes texts (n + length steps) more

@@ -12,15 +12,15 @@ use std::alloc::{AllocError, Global};
 /// The fronts of all names, one behind the other, and some bytes more; where each begins, and where the last ends.
 #[derive(Drop)]
 pub(crate) struct Fronts {
-    bytes: Vec<u8>,
+    pub(crate) bytes: Vec<u8>,
     starts: Vec<usize>,
 }
 
 /// Where a front begins and ends.
 #[derive(Clone, Copy)]
-struct Place {
-    from: usize,
-    to: usize,
+pub(crate) struct Place {
+    pub(crate) from: usize,
+    pub(crate) to: usize,
 }
 
 fn push_front(buffer: &mut Vec<u8>, net: &Net, nodes: &Lexicon, name: u32) -> Result<(), AllocError>
@@ -45,7 +45,8 @@ pub(crate) fn fronts_of(alloc: Global, net: &Net, nodes: &Lexicon) -> Result<Fro
     Ok(Fronts { bytes, starts })
 }
 
-fn place_of(net: &Net, nodes: &Lexicon, fronts: &Fronts, name: u32) -> Place
+#[inline(always)]
+pub(crate) fn place_of(net: &Net, nodes: &Lexicon, fronts: &Fronts, name: u32) -> Place
     requires fronts { AreFronts net.now nodes.now fronts.now }
     requires within { name < name_count net.now }
     ensures from { result.from ≡ length (fronts_below net.now nodes.now name) }

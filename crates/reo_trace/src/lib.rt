@@ -9,6 +9,8 @@ mod numbers;
 mod recorder;
 mod report;
 mod report_lines;
+mod room;
+mod runs;
 mod shown;
 mod step_list;
 mod write;

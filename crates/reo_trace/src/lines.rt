@@ -1,16 +1,18 @@
 //! The lines of a report's text, each made in a buffer.
-ghost use Rattle.std.specs.Prelude.{◌≡◌, ◌+◌, ◌≤◌, [], ◌∷◌, length, take, drop, decimal, OnOk, vec_len, flat_map, slice_get, Some};
+ghost use Rattle.std.specs.Prelude.{◌≡◌, ◌+◌, ◌≤◌, [], ◌∷◌, length, take, drop, decimal, codes, ◌++◌, IfOk, OnOk, vec_len, flat_map, slice_get, Some};
 ghost use Rattle.std.specs.Fmt.{signed_decimal};
 ghost use Rattle.std.specs.List.{list_all};
 ghost use Rattle.reo_value.specs.Lexicon.{text_at};
-ghost use Rattle.reo_trace.specs.Buffer.{HasTaken, Takes};
+ghost use Rattle.reo_trace.specs.Buffer.{HasTaken, HasWritten, Takes};
 ghost use Rattle.reo_trace.specs.Escapes as escapes;
 ghost use Rattle.reo_trace.specs.Fronts.{AreFronts};
 ghost use Rattle.reo_trace.specs.ReportText.{escaped, value_text, node_text, port_text, end_text, name_text, pair_text, step_line, end_line};
 
 use crate::Ending;
 use crate::fronts::{Fronts, push_front_of};
-use crate::numbers::push_step_number;
+use crate::numbers::StepFront;
+use crate::room::{make_room, put_byte};
+use crate::runs::write_run;
 use crate::shown::{Shown, push_shown};
 use itoa::Buffer;
 use reo_net::{Net, Port};
@@ -257,23 +259,79 @@ fn push_pairs(
     Ok(())
 }
 
-pub(crate) fn push_step(
+/// How many pairs are written into one room.
+const MOST: usize = 64;
+
+/// Appends pairs and the end of their line behind the bytes that are used. Answers how many are used then.
+fn push_rest(
     buffer: &mut Vec<u8>,
+    used: usize,
     net: &Net,
     nodes: &Lexicon,
     texts: &Lexicon,
     fronts: &Fronts,
     shown: &mut Shown,
-    number: u64,
     pairs: &[(u32, Value)],
-) -> Result<(), AllocError>
-    requires { AreFronts net.now nodes.now fronts.now }
-    ensures taken { OnOk result (HasTaken buffer.old buffer.new (step_line net.now nodes.now texts.now number (record { pairs = pairs.now }))) }
-    ensures grows { vec_len buffer.old ≤ vec_len buffer.new }
+) -> Result<usize, AllocError>
+    requires fronts { AreFronts net.now nodes.now fronts.now }
+    requires used { used ≤ vec_len buffer.old }
+    ensures written { IfOk result (λ end. HasWritten buffer.old.items used buffer.new.items end (flat_map (pair_text net.now nodes.now texts.now) pairs.now ++ codes "\n")) }
+    ensures grows { used ≤ vec_len buffer.new }
 {
-    push_step_number(buffer, number)?;
+    buffer.truncate(used);
     push_pairs(buffer, net, nodes, texts, fronts, shown, pairs)?;
-    push_byte(buffer, b'\n')
+    push_byte(buffer, b'\n')?;
+    Ok(buffer.len())
+}
+
+/// Appends a step's line behind the bytes that are used: its first pairs in one room. Answers how many are used then.
+pub(crate) fn push_step(
+    buffer: &mut Vec<u8>,
+    used: usize,
+    net: &Net,
+    nodes: &Lexicon,
+    texts: &Lexicon,
+    fronts: &Fronts,
+    shown: &mut Shown,
+    front: &StepFront,
+    pairs: &[(u32, Value)],
+) -> Result<usize, AllocError>
+    requires fronts { AreFronts net.now nodes.now fronts.now }
+    requires used { used ≤ vec_len buffer.old }
+    ensures written { IfOk result (λ end. HasWritten buffer.old.items used buffer.new.items end (step_line net.now nodes.now texts.now front.now (record { pairs = pairs.now }))) }
+    ensures grows { used ≤ vec_len buffer.new }
+{
+    let most = if pairs.len() < MOST {
+        pairs.len()
+    } else {
+        MOST
+    };
+    make_room(buffer, used, 64 * most + 64)?;
+    let room = buffer.as_mut_slice();
+    let begun = front.put(room, used);
+    let run = write_run(
+        room,
+        begun,
+        net,
+        nodes,
+        texts,
+        fronts,
+        shown,
+        &pairs[..most],
+    );
+    if run.pairs == pairs.len() {
+        return Ok(put_byte(room, run.used, b'\n'));
+    }
+    push_rest(
+        buffer,
+        run.used,
+        net,
+        nodes,
+        texts,
+        fronts,
+        shown,
+        &pairs[run.pairs..],
+    )
 }
 
 pub(crate) fn push_ending(buffer: &mut Vec<u8>, ending: Ending) -> Result<(), AllocError>

@@ -1,10 +1,12 @@
 //! Numbers with the fixed text beside them, each appended at once.
-ghost use Rattle.std.specs.Prelude.{◌≡◌, ◌+◌, ◌<◌, ◌≤◌, ◌∷◌, ◌++◌, drop, codes, decimal, OnOk, vec_len};
-ghost use Rattle.reo_trace.specs.Buffer.{HasTaken};
+ghost use Rattle.std.specs.Prelude.{◌≡◌, ◌+◌, ◌^◌, ◌<◌, ◌≤◌, ◌∷◌, ◌++◌, length, drop, codes, decimal, OnOk, vec_len};
+ghost use Rattle.reo_trace.specs.Buffer.{HasTaken, HasWritten};
 
 use crate::lines::append_short;
+use crate::room::put_short;
 use itoa::write_digits;
 use std::alloc::AllocError;
+use std::marker::Model;
 
 /// Puts a byte before the place, and answers where it stands.
 fn put_before(made: &mut [u8; 64], place: usize, byte: u8) -> usize
@@ -30,17 +32,65 @@ pub(crate) fn push_place(buffer: &mut Vec<u8>, number: u64) -> Result<(), AllocE
     append_short(buffer, &made, first, 32 - first)
 }
 
-/// Appends a step's number, with the word before it.
-pub(crate) fn push_step_number(buffer: &mut Vec<u8>, number: u64) -> Result<(), AllocError>
-    ensures taken { OnOk result (HasTaken buffer.old buffer.new (codes "step " ++ decimal number)) }
-    ensures grows { vec_len buffer.old ≤ vec_len buffer.new }
-{
-    let mut made = [0; 64];
-    let digits = write_digits(number, &mut made, 32);
-    let last = put_before(&mut made, digits, b' ');
-    let fourth = put_before(&mut made, last, b'p');
-    let third = put_before(&mut made, fourth, b'e');
-    let second = put_before(&mut made, third, b't');
-    let first = put_before(&mut made, second, b's');
-    append_short(buffer, &made, first, 32 - first)
+/// The front of the next step's line: the word, and the step's number, behind so many bytes.
+#[derive(Drop)]
+pub(crate) struct StepFront {
+    number: u64,
+    bytes: [u8; 64],
+    start: usize,
+}
+
+impl Model for StepFront {
+    ghost use Rattle.std.specs.Prelude.{ℕ, ◌≡◌, ◌≤◌, ◌++◌, codes, decimal, drop, replicate};
+
+    ghost Value = { ℕ };
+
+    ghost view = { λ f. f.number };
+
+    ghost invariant = { λ f. (f.start ≤ 32) × (drop f.start f.bytes ≡ (codes "step " ++ decimal f.number) ++ replicate 32 0) };
+}
+
+impl StepFront {
+    pub(crate) fn new(number: u64) -> StepFront
+        ensures { result ≡ number }
+    {
+        let mut bytes = [0; 64];
+        let digits = write_digits(number, &mut bytes, 32);
+        let last = put_before(&mut bytes, digits, b' ');
+        let fourth = put_before(&mut bytes, last, b'p');
+        let third = put_before(&mut bytes, fourth, b'e');
+        let second = put_before(&mut bytes, third, b't');
+        let start = put_before(&mut bytes, second, b's');
+        StepFront {
+            number,
+            bytes,
+            start,
+        }
+    }
+
+    /// Goes on to the next step: mostly only the last digit is another one.
+    #[inline(always)]
+    pub(crate) fn advance(&mut self)
+        requires { self.old + 1 < 2 ^ 64 }
+        ensures { self.new ≡ self.old + 1 }
+    {
+        let last = self.bytes[31];
+        if last < b'9' {
+            self.bytes[31] = last + 1;
+            self.number += 1;
+        } else {
+            *self = StepFront::new(self.number + 1);
+        }
+    }
+
+    /// Writes the front, and answers where it ends.
+    #[inline(always)]
+    pub(crate) fn put(&self, room: &mut [u8], used: usize) -> usize
+        requires { used + 32 ≤ length room.old }
+        ensures written { HasWritten room.old used room.new result (codes "step " ++ decimal self.now) }
+        ensures end { result ≤ used + 32 }
+        ensures length { length room.new ≡ length room.old }
+    {
+        put_short(room, used, &self.bytes, self.start, 32 - self.start)
+    }
 }

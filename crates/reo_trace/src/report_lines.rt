@@ -8,6 +8,7 @@ ghost use Rattle.reo_trace.specs.ReportText.{report_text};
 use crate::calls::push_calls;
 use crate::fronts::{Fronts, fronts_of};
 use crate::lines::{push_ending, push_step};
+use crate::numbers::StepFront;
 use crate::shown::Shown;
 use crate::{Called, Ending, Recorder};
 use reo_net::Net;
@@ -26,11 +27,12 @@ pub struct ReportLines<'a> {
     fronts: Fronts,
     shown: Shown,
     text: Vec<u8>,
-    count: usize,
+    used: usize,
+    front: StepFront,
 }
 
 impl<'a> Model for ReportLines<'a> {
-    ghost use Rattle.std.specs.Prelude.{◌≤◌, vec_len};
+    ghost use Rattle.std.specs.Prelude.{◌≤◌, take, vec_len};
     ghost use Rattle.std.specs.Coded.{codes};
     ghost use Rattle.reo_guard.specs.contracts.guard.Guard as guard;
     ghost use Rattle.reo_trace.specs.Fronts.{AreFronts};
@@ -44,11 +46,11 @@ impl<'a> Model for ReportLines<'a> {
       circuit = l.net.now;
       nodes = l.nodes.now;
       texts = l.texts.now;
-      text = l.text.items;
-      count = l.count;
+      text = take l.used l.text.items;
+      count = l.front;
     } };
 
-    ghost invariant = { λ l. AreFronts l.net.now l.nodes.now l.fronts × (l.count ≤ vec_len l.text) };
+    ghost invariant = { λ l. AreFronts l.net.now l.nodes.now l.fronts × (l.front ≤ l.used) × (l.used ≤ vec_len l.text) };
 }
 
 impl<'a> ReportLines<'a> {
@@ -70,7 +72,8 @@ impl<'a> ReportLines<'a> {
             fronts,
             shown: Shown::new(0),
             text: Vec::new(alloc),
-            count: 0,
+            used: 0,
+            front: StepFront::new(0),
         })
     }
 
@@ -84,6 +87,7 @@ impl<'a> ReportLines<'a> {
         ensures { IfOk result (λ text. (c : AnyCircuit) (nodes texts : List (List ℕ)) (steps : List AnyStep) → self.entry ≡ after_steps (no_lines c nodes texts) steps → text.items ≡ report_text c nodes texts people.now (record { steps = steps; calls = calls.now; ending = ending })) }
     {
         let mut text = self.text;
+        text.truncate(self.used);
         let mut shown = self.shown;
         push_calls(
             &mut text, self.alloc, self.net, self.nodes, self.texts, &mut shown, people, calls,
@@ -100,17 +104,18 @@ impl<'a> Recorder for ReportLines<'a> {
     ghost has_kept = { λ start now steps. now ≡ after_steps start steps };
 
     fn keep(&mut self, pairs: &[(u32, Value)]) -> Result<(), AllocError> {
-        push_step(
+        self.used = push_step(
             &mut self.text,
+            self.used,
             self.net,
             self.nodes,
             self.texts,
             &self.fronts,
             &mut self.shown,
-            self.count as u64,
+            &self.front,
             pairs,
         )?;
-        self.count += 1;
+        self.front.advance();
         Ok(())
     }
 }

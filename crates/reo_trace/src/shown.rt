@@ -1,9 +1,10 @@
 //! A number's text that is kept while the number comes again: the names of a step mostly have one value.
-ghost use Rattle.std.specs.Prelude.{◌≡◌, ◌≤◌, OnOk, vec_len};
+ghost use Rattle.std.specs.Prelude.{◌≡◌, ◌+◌, ◌≤◌, length, OnOk, vec_len};
 ghost use Rattle.std.specs.Fmt.{signed_decimal};
-ghost use Rattle.reo_trace.specs.Buffer.{HasTaken};
+ghost use Rattle.reo_trace.specs.Buffer.{HasTaken, HasWritten};
 
 use crate::lines::append_short;
+use crate::room::put_short;
 use itoa::Integer;
 use std::alloc::AllocError;
 use std::marker::Model;
@@ -43,12 +44,24 @@ impl Shown {
     }
 
     /// Makes the text of a number, where it is another one.
-    fn turn_to(&mut self, number: i64)
+    #[inline(always)]
+    pub(crate) fn turn_to(&mut self, number: i64)
         ensures { self.new ≡ number }
     {
         if self.number != number {
             *self = Shown::new(number);
         }
+    }
+
+    /// Writes the text, and answers where it ends.
+    #[inline(always)]
+    pub(crate) fn put(&self, room: &mut [u8], used: usize) -> usize
+        requires { used + 32 ≤ length room.old }
+        ensures written { HasWritten room.old used room.new result (signed_decimal self.now) }
+        ensures end { result ≤ used + 32 }
+        ensures length { length room.new ≡ length room.old }
+    {
+        put_short(room, used, &self.bytes, self.start, 40 - self.start)
     }
 
     #[inline(always)]

@@ -1,9 +1,6 @@
-use Rattle.std.proofs.Common.{◌≡◌, ◌-◌, ◌∷◌, ◌++◌, length, take, drop, replicate, ap, ◌∙◌, arith, rules, codes, decimal, OnOk, subst}
+use Rattle.std.proofs.Common.{arith, rules}
 use Rattle.std.proofs.lemmas.Fmt.{length-decimal-le}
-use Rattle.std.proofs.lemmas.List.{drop-replicate}
-use Rattle.std.proofs.Math.Seq.{take-append_seam}
-use Rattle.reo_trace.specs.Buffer.{HasTaken}
-use Rattle.reo_trace.proofs.numbers.push_step_number.Goals as goal
+use Rattle.reo_trace.proofs.numbers.StepFront.new.Goals as goal
 
 pub write_digits-digits-requires : goal.write_digits-digits-requires
 write_digits-digits-requires c = (omega (arith, length-decimal-le 20 c.args.number (omega arith) (omega arith) c.ranges.number.fits), search rules)
@@ -28,22 +25,7 @@ put_before-second-requires c =
     let long = length-decimal-le 20 c.args.number (omega arith) (omega arith) c.ranges.number.fits in
     (omega (arith, long, c.write_digits-digits.ensures.start, c.put_before-last.ensures.at, c.put_before-fourth.ensures.at, c.put_before-third.ensures.at), omega (arith, c.write_digits-digits.ensures.start, c.put_before-last.ensures.at, c.put_before-fourth.ensures.at, c.put_before-third.ensures.at))
 
-pub put_before-first-requires : goal.put_before-first-requires
-put_before-first-requires c =
+pub put_before-start-requires : goal.put_before-start-requires
+put_before-start-requires c =
     let long = length-decimal-le 20 c.args.number (omega arith) (omega arith) c.ranges.number.fits in
     (omega (arith, long, c.write_digits-digits.ensures.start, c.put_before-last.ensures.at, c.put_before-fourth.ensures.at, c.put_before-third.ensures.at, c.put_before-second.ensures.at), omega (arith, c.write_digits-digits.ensures.start, c.put_before-last.ensures.at, c.put_before-fourth.ensures.at, c.put_before-third.ensures.at, c.put_before-second.ensures.at))
-
-pub returns-clause-taken : goal.returns-clause-taken
-returns-clause-taken c =
-    let first = c.put_before-first in
-    let digits = decimal c.args.number in
-    let whole = codes "step " ++ digits in
-    let rest = replicate 32 0 in
-    let made : drop first.result first.new.made ≡ whole ++ rest =
-    first.ensures.made ∙ ap (λ l. 115 ∷ l) (c.put_before-second.ensures.made ∙ ap (λ l. 116 ∷ l) (c.put_before-third.ensures.made ∙ ap (λ l. 101 ∷ l)
-    (c.put_before-fourth.ensures.made ∙ ap (λ l. 112 ∷ l) (c.put_before-last.ensures.made ∙ ap (λ l. 32 ∷ l)
-    (c.write_digits-digits.ensures.written ∙ ap (λ l. digits ++ l) (drop-replicate 32 64 0)))))) in
-    let long : 32 - first.result ≡ length whole =
-    omega (arith, first.ensures.at, c.put_before-second.ensures.at, c.put_before-third.ensures.at, c.put_before-fourth.ensures.at, c.put_before-last.ensures.at, c.write_digits-digits.ensures.start) in
-    subst (λ l. OnOk c.append_short.result (HasTaken c.args.buffer.now c.append_short.new.buffer l))
-    (ap (take (32 - first.result)) made ∙ ap (λ n. take n (whole ++ rest)) long ∙ take-append_seam whole rest) c.append_short.ensures.taken
