@@ -120,10 +120,20 @@ shared_at c (r ∷ plans) (s ∷ all) are (suc region) rows found = shared_at c 
 shared_at c [] (s ∷ all) are region rows found = absurd are
 shared_at c (r ∷ plans) [] are region rows found = absurd are
 
+with_false : (b : Bool) → false ≡ (b && false)
+with_false true = refl
+with_false false = refl
+
 -- a row's asks are so just where the row fits
 module _ (c : RawCircuit) (texts : List (List ℕ)) (reading : Reading) (slots : List Giver) (facts : List Fact) (row : Row) (asks : Asks) (is : IsAsks c slots facts row asks) where
   pub asked_fits : (list_all (number_so c texts reading slots facts) asks.numbers && list_all (so_in c texts reading row.slots) asks.rest) ≡ fits c texts reading row
   asked_fits = is.has slots facts (extends_same slots) (extends_same facts) texts reading
+
+  -- a row of which a fact of its own is not so does not fit
+  pub own_fails : false ≡ list_all (so_in c texts reading row.slots) asks.rest → false ≡ fits c texts reading row
+  own_fails fails =
+      let numbers = list_all (number_so c texts reading slots facts) asks.numbers in
+      with_false numbers ∙ ap (λ b. numbers && b) fails ∙ asked_fits
 
   -- a row that has a failed fact does not fit
   pub masked_fails : (marks : Marks) → AreMarks (number_so c texts reading slots facts) marks → (bit_and marks.failed asks.mask ≡ 0 → ⊥) → false ≡ fits c texts reading row

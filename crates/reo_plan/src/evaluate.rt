@@ -2,35 +2,16 @@
 ghost use Rattle.std.specs.Prelude.{◌≡◌, map, if◌then◌else◌, not, false};
 ghost use Rattle.std.specs.Option.{option_and_then, option_map_or};
 ghost use Rattle.reo_flow.specs.Tests.{is_met, yielded};
-ghost use Rattle.reo_flow.specs.Flow.{sources_of, is_offered, is_empty, image_of_kind, image_at, met_by_kind, met_at, flow, is_so};
+ghost use Rattle.reo_flow.specs.Flow.{sources_of, image_of_kind, image_at, met_by_kind, met_at, flow, is_so};
 ghost use Rattle.reo_plan.specs.inside.Slots.{slot_at, slot_value};
 
 use crate::slots::giver_at;
-use crate::sources::{Sources, cell_word, known, port_words};
-use reo_fabric::Reading;
+use crate::sources::{Sources, Words, known};
 use reo_flow::{Fact, Giver};
 use reo_guard::{Fun, Guard, apply, holds};
 use reo_net::{Kind, Net};
 use reo_value::{Lexicon, Value};
 use sqlite_items::at;
-
-fn is_offered(reading: &Reading, port: u32) -> bool
-    ensures { result ≡ is_offered reading.now port }
-{
-    match port_words(reading.ports.as_slice(), port) {
-        Some(words) => words.0 == 1,
-        None => false,
-    }
-}
-
-fn is_empty(reading: &Reading, cell: u32) -> bool
-    ensures { result ≡ is_empty reading.now cell }
-{
-    match cell_word(reading.cells.as_slice(), cell) {
-        Some(word) => word == 0,
-        None => false,
-    }
-}
 
 fn is_met(guard: &Guard, datum: Value, texts: &Lexicon) -> bool
     ensures { result ≡ is_met texts.now guard.now datum }
@@ -155,25 +136,25 @@ fn is_met_in(net: &Net, texts: &Lexicon, number: u32, datum: Option<Value>, want
 
 /// Whether a fact is so.
 #[inline(always)]
-pub(crate) fn is_so(
+pub(crate) fn is_so<W: Words>(
     net: &Net,
     texts: &Lexicon,
-    reading: &Reading,
+    words: &W,
     slots: &[Giver],
     fact: &Fact,
 ) -> bool
-    ensures { result ≡ is_so net.now texts.now reading.now (slot_value net.now texts.now (sources_of reading.now) slots.now) fact.now }
+    ensures { result ≡ is_so net.now texts.now (W.reading words.now) (slot_value net.now texts.now (sources_of (W.reading words.now)) slots.now) fact.now }
 {
     match fact {
-        Fact::Offered(port) => is_offered(reading, *port),
-        Fact::Empty(cell) => is_empty(reading, *cell),
-        Fact::Known(slot) => slot_value(net, texts, reading, slots, *slot).is_some(),
+        Fact::Offered(port) => words.is_offered(*port),
+        Fact::Empty(cell) => words.is_empty(*cell),
+        Fact::Known(slot) => slot_value(net, texts, words, slots, *slot).is_some(),
         Fact::Met(channel, slot) => {
-            let datum = slot_value(net, texts, reading, slots, *slot);
+            let datum = slot_value(net, texts, words, slots, *slot);
             is_met_in(net, texts, *channel, datum, true)
         }
         Fact::Failed(channel, slot) => {
-            let datum = slot_value(net, texts, reading, slots, *slot);
+            let datum = slot_value(net, texts, words, slots, *slot);
             is_met_in(net, texts, *channel, datum, false)
         }
     }

@@ -9,6 +9,8 @@ use crate::asks::{Asks, Shared};
 use crate::evaluate::is_so;
 use crate::marks::{Marks, is_known, low_half, mark, no_marks};
 use crate::row::Row;
+use crate::sources::Words;
+use crate::view::View;
 use reo_fabric::Reading;
 use reo_flow::{Fact, Giver};
 use reo_net::Net;
@@ -18,7 +20,7 @@ use sqlite_items::at;
 fn number_so(
     net: &Net,
     texts: &Lexicon,
-    reading: &Reading,
+    reading: &View<'_>,
     slots: &[Giver],
     facts: &[Fact],
     number: u32,
@@ -35,7 +37,7 @@ fn number_so(
 fn found_so(
     net: &Net,
     texts: &Lexicon,
-    reading: &Reading,
+    reading: &View<'_>,
     slots: &[Giver],
     facts: &[Fact],
     marks: &mut Marks,
@@ -57,7 +59,7 @@ fn found_so(
 fn all_found_so(
     net: &Net,
     texts: &Lexicon,
-    reading: &Reading,
+    reading: &View<'_>,
     slots: &[Giver],
     facts: &[Fact],
     marks: &mut Marks,
@@ -76,19 +78,20 @@ fn all_found_so(
 }
 
 /// Whether these facts are so.
-fn all_so(net: &Net, texts: &Lexicon, reading: &Reading, slots: &[Giver], facts: &[Fact]) -> bool
-    ensures { result ≡ list_all (so_in net.now texts.now reading.now slots.now) facts.now }
+#[inline(always)]
+fn all_so<W: Words>(net: &Net, texts: &Lexicon, words: &W, slots: &[Giver], facts: &[Fact]) -> bool
+    ensures { result ≡ list_all (so_in net.now texts.now (W.reading words.now) slots.now) facts.now }
 {
     facts
         .iter()
-        .all(|fact| is_so(net, texts, reading, slots, fact))
+        .all(|fact| is_so(net, texts, words, slots, fact))
 }
 
-/// Whether all that a row asks is so.
+/// Whether all that a row asks is so. What it shares with no other row is asked first.
 fn row_fits(
     net: &Net,
     texts: &Lexicon,
-    reading: &Reading,
+    reading: &View<'_>,
     shared: &Shared,
     marks: &mut Marks,
     row: &Row,
@@ -102,19 +105,15 @@ fn row_fits(
     if marks.failed & asks.mask != 0 {
         return false;
     }
+    let own = row.slots.as_slice();
+    let rest = asks.rest.as_slice();
+    if !all_so(net, texts, reading, own, rest) {
+        return false;
+    }
     let slots = shared.slots.as_slice();
     let facts = shared.facts.as_slice();
     let numbers = asks.numbers.as_slice();
-    if !all_found_so(net, texts, reading, slots, facts, marks, numbers) {
-        return false;
-    }
-    all_so(
-        net,
-        texts,
-        reading,
-        row.slots.as_slice(),
-        asks.rest.as_slice(),
-    )
+    all_found_so(net, texts, reading, slots, facts, marks, numbers)
 }
 
 /// How many masks are looked at together.
@@ -189,6 +188,7 @@ pub(crate) fn first_row(
     if rows.len() == 1 {
         return only_row(net, texts, reading, &rows[0]);
     }
+    let view = View::new(reading);
     let mut marks = no_marks();
     let asks = shared.asks.as_slice();
     let masks = shared.masks.as_slice();
@@ -198,7 +198,7 @@ pub(crate) fn first_row(
         if !run_fails(masks, from, to, low_half(marks.failed)) {
             for row in from..to {
                 if row_fits(
-                    net, texts, reading, shared, &mut marks, &rows[row], &asks[row],
+                    net, texts, &view, shared, &mut marks, &rows[row], &asks[row],
                 ) {
                     return Some(row);
                 }

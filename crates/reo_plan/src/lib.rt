@@ -16,6 +16,7 @@ mod plans;
 mod row;
 mod slots;
 mod sources;
+mod view;
 mod wiring;
 mod write;
 

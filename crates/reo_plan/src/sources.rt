@@ -1,11 +1,14 @@
 //! Where data come from: the words of a reading, or what an entry took from cells and ports.
-ghost use Rattle.std.specs.Prelude.{◌≡◌, ℕ, map, Option, Some, None, IfSome};
+ghost use Rattle.std.specs.Prelude.{◌≡◌, ℕ, nat_eq, false, Option, Some, None, IfSome};
+ghost use Rattle.std.specs.Option.{option_map_or};
 ghost use Rattle.reo_value.specs.Code.{IsValue};
 ghost use Rattle.reo_fabric.specs.Entry.{at_place};
+ghost use Rattle.reo_fabric.specs.declared.reading.Reading.{Reading as AnyReading};
 ghost use Rattle.reo_flow.specs.Tests.{decoded};
-ghost use Rattle.reo_flow.specs.Flow.{Sources as AnySources, sources_of, offered_value};
+ghost use Rattle.reo_flow.specs.Flow.{Sources as AnySources, sources_of, offered_value, is_offered, is_empty};
 ghost use Rattle.reo_plan.specs.inside.Back.{reading_back};
 
+use crate::view::{View, cell_word, port_words};
 use reo_fabric::{EntryRef, Reading};
 use reo_value::{Value, value_of, word_of};
 
@@ -18,6 +21,20 @@ pub(crate) trait Sources {
 
     fn at_port(&self, port: u32) -> Option<Value>
         ensures { result ≡ (sources self.now).port port };
+}
+
+/// The words of a reading, which also tell what is offered at all ports and which cells are empty.
+pub(crate) trait Words: Sources {
+    ghost reading: { Self → AnyReading };
+
+    fn is_offered(&self, port: u32) -> bool
+        ensures { result ≡ is_offered (reading self.now) port };
+
+    fn is_empty(&self, cell: u32) -> bool
+        ensures { result ≡ is_empty (reading self.now) cell };
+
+    /// What comes out of cells and is offered at put ports is what the reading tells.
+    ghost tells: { (words : Self) → Self.sources words ≡ sources_of (reading words) };
 }
 
 impl Sources for Reading {
@@ -38,6 +55,58 @@ impl Sources for Reading {
             None => None,
         }
     }
+}
+
+impl Words for Reading {
+    ghost use Rattle.std.specs.Prelude.{refl};
+
+    ghost reading = { λ reading. reading };
+
+    fn is_offered(&self, port: u32) -> bool {
+        says_offered(port_words(self.ports.as_slice(), port))
+    }
+
+    fn is_empty(&self, cell: u32) -> bool {
+        says_empty(cell_word(self.cells.as_slice(), cell))
+    }
+
+    ghost tells = { λ reading. refl };
+}
+
+impl<'a> Sources for View<'a> {
+    ghost use Rattle.reo_flow.specs.Flow.{sources_of};
+
+    ghost sources = { sources_of };
+
+    fn in_cell(&self, cell: u32) -> Option<Value> {
+        match self.cell_word(cell) {
+            Some(word) => decoded(word),
+            None => None,
+        }
+    }
+
+    fn at_port(&self, port: u32) -> Option<Value> {
+        match self.port_words(port) {
+            Some(words) => offered_value(words),
+            None => None,
+        }
+    }
+}
+
+impl<'a> Words for View<'a> {
+    ghost use Rattle.std.specs.Prelude.{refl};
+
+    ghost reading = { λ reading. reading };
+
+    fn is_offered(&self, port: u32) -> bool {
+        says_offered(self.port_words(port))
+    }
+
+    fn is_empty(&self, cell: u32) -> bool {
+        says_empty(self.cell_word(cell))
+    }
+
+    ghost tells = { λ reading. refl };
 }
 
 impl<'a> Sources for EntryRef<'a> {
@@ -62,34 +131,30 @@ fn decoded(word: u64) -> Option<Value>
     value_of(word)
 }
 
-#[inline(always)]
-pub(crate) fn cell_word(cells: &[(u32, u64)], cell: u32) -> Option<u64>
-    ensures { result ≡ at_place cells.now cell }
-{
-    for words in cells {
-        if words.0 == cell {
-            return Some(words.1);
-        }
-    }
-    None
-}
-
-#[inline(always)]
-pub(crate) fn port_words(ports: &[(u32, u64, u64)], port: u32) -> Option<(u64, u64)>
-    ensures { result ≡ at_place (map (λ p. (p.0, (p.1, p.2))) ports.now) port }
-{
-    for words in ports {
-        if words.0 == port {
-            return Some((words.1, words.2));
-        }
-    }
-    None
-}
-
 fn offered_value(words: (u64, u64)) -> Option<Value>
     ensures { result ≡ offered_value words }
 {
     if words.0 == 1 { decoded(words.1) } else { None }
+}
+
+#[inline(always)]
+fn says_offered(words: Option<(u64, u64)>) -> bool
+    ensures { result ≡ option_map_or (λ words. nat_eq words.0 1) words false }
+{
+    match words {
+        Some(words) => words.0 == 1,
+        None => false,
+    }
+}
+
+#[inline(always)]
+fn says_empty(word: Option<u64>) -> bool
+    ensures { result ≡ option_map_or (λ word. nat_eq word 0) word false }
+{
+    match word {
+        Some(word) => word == 0,
+        None => false,
+    }
 }
 
 /// The value, whose code tells that it is one.

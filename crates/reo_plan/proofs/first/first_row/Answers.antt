@@ -53,7 +53,7 @@ pub returns-then-row_fits : goal.returns-then-row_fits
 returns-then-row_fits c =
     let row = c.index-rows-row.result in
     position_some (fits c.args.net.now c.args.texts.now c.args.reading.now) c.args.rows.now c.loop-row.row row (omega arith) (λ k less. c.loop-row.invariant.before k row less)
-    (ap (fits c.args.net.now c.args.texts.now c.args.reading.now) (sym c.index-rows-row.is) ∙ sym c.row_fits.ensures.fits ∙ c.if-row_fits.true)
+    (ap (fits c.args.net.now c.args.texts.now c.args.reading.now) (sym c.index-rows-row.is) ∙ sym (c.row_fits.ensures.fits ∙ ap (λ reading. fits c.args.net.now c.args.texts.now reading row) c.new-view.ensures) ∙ c.if-row_fits.true)
 
 pub returns : goal.returns
 returns c = position_none (fits c.args.net.now c.args.texts.now c.args.reading.now) c.args.rows.now (λ k d less. c.loop-from.invariant.before k d (omega (arith, less)))

@@ -1,6 +1,6 @@
 use Rattle.std.proofs.Common.{◌≡◌, ℕ, map, drop}
 use Rattle.reo_fabric.specs.Entry.{at_place}
-use Rattle.reo_plan.proofs.sources.port_words.Given as goal
+use Rattle.reo_plan.proofs.view.port_words.Given as goal
 
 abbrev pub invariant-loop-words : goal.invariant-loop-words
 invariant-loop-words l =
