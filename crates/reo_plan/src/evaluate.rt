@@ -107,7 +107,29 @@ fn flow<S: Sources>(
     }
 }
 
-/// What is in a slot. Most slots have what comes out of a cell or is offered at a port.
+/// What flows to a slot through so many givers, which is found at once where its own giver is a cell or a port.
+#[inline(always)]
+fn flow_near<S: Sources>(
+    net: &Net,
+    texts: &Lexicon,
+    sources: &S,
+    slots: &[Giver],
+    fuel: u64,
+    slot: u32,
+) -> Option<Value>
+    ensures { result ≡ flow net.now texts.now (S.sources sources.now) (slot_at slots.now) fuel slot }
+{
+    if fuel == 0 {
+        return None;
+    }
+    match giver_at(slots, slot) {
+        Giver::Cell(cell) => sources.in_cell(cell),
+        Giver::Port(port) => sources.at_port(port),
+        _ => flow(net, texts, sources, slots, fuel, slot),
+    }
+}
+
+/// What is in a slot. Most slots have what comes out of a cell or is offered at a port, or a function's answer at that.
 #[inline(always)]
 pub(crate) fn slot_value<S: Sources>(
     net: &Net,
@@ -121,6 +143,10 @@ pub(crate) fn slot_value<S: Sources>(
     match giver_at(slots, slot) {
         Giver::Cell(cell) => sources.in_cell(cell),
         Giver::Port(port) => sources.at_port(port),
+        Giver::Image(channel, other) => {
+            let datum = flow_near(net, texts, sources, slots, u64::from(slot), other);
+            image_of(net, texts, channel, datum)
+        }
         _ => flow(net, texts, sources, slots, u64::from(slot) + 1, slot),
     }
 }
