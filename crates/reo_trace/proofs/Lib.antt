@@ -1,7 +1,7 @@
 pub mod BufferLemmas
 pub mod DigitLemmas
 pub mod EscapeLemmas
-pub mod FrontLemmas
+pub mod PlaceLemmas
 pub mod ListLemmas
 pub mod PartLemmas
 pub mod ReportLemmas

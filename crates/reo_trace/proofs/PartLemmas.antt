@@ -2,6 +2,7 @@
 use Rattle.std.proofs.Common.{◌≡◌, ℕ, ◌+◌, ◌-◌, ◌≤◌, zero, suc, List, [], ◌∷◌, ◌++◌, length, map, take, drop, get_or, refl, sym, ap, ◌∙◌, arith, append_assoc, append-nil, length-append}
 use Rattle.std.specs.List.{range_with_len, flat_map, slice_range}
 use Rattle.std.proofs.lemmas.Grind.{flat_map-append}
+use Rattle.reo_trace.specs.Parts.{parts_below}
 use Rattle.std.proofs.lemmas.List.FromFn.{length-map-range_with_len, get_or-map-range_with_len, map-range_with_len_more}
 
 -- so many numbers, and so many more behind them
@@ -25,12 +26,11 @@ drop_front [] ys = refl
 drop_front (x ∷ xs) ys = drop_front xs ys
 
 module _ (part : ℕ → List ℕ) where
-  -- the parts of the numbers below this one
-  abbrev pub parts_below : ℕ → List ℕ
-  parts_below n = flat_map part (range_with_len 0 n)
+  abbrev below : ℕ → List ℕ
+  below = parts_below part
 
   -- the parts below a number, then those from it on
-  pub below_split : (from to : ℕ) → from ≤ to → parts_below to ≡ parts_below from ++ flat_map part (range_with_len from (to - from))
+  pub below_split : (from to : ℕ) → from ≤ to → below to ≡ below from ++ flat_map part (range_with_len from (to - from))
   below_split from to le =
       let whole : to ≡ from + (to - from) = omega arith in
       let at : 0 + from ≡ from = omega arith in
@@ -38,21 +38,21 @@ module _ (part : ℕ → List ℕ) where
       ∙ ap (flat_map part) (range_split 0 from (to - from) ∙ ap (λ k. range_with_len 0 from ++ range_with_len k (to - from)) at)
       ∙ flat_map-append part (range_with_len 0 from) (range_with_len from (to - from))
 
-  pub below_longer : (from to : ℕ) → from ≤ to → length (parts_below from) ≤ length (parts_below to)
+  pub below_longer : (from to : ℕ) → from ≤ to → length (below from) ≤ length (below to)
   below_longer from to le =
-      omega (arith, ap length (below_split from to le), length-append (parts_below from) (flat_map part (range_with_len from (to - from))))
+      omega (arith, ap length (below_split from to le), length-append (below from) (flat_map part (range_with_len from (to - from))))
 
   -- where the parts below a number end, the others begin
   pub between : (from to n : ℕ) → from ≤ to → to ≤ n
-      → slice_range (parts_below n) (length (parts_below from)) (length (parts_below to)) ≡ flat_map part (range_with_len from (to - from))
+      → slice_range (below n) (length (below from)) (length (below to)) ≡ flat_map part (range_with_len from (to - from))
   between from to n le within =
       let run : List ℕ = flat_map part (range_with_len from (to - from)) in
       let rest : List ℕ = flat_map part (range_with_len to (n - to)) in
-      let front : List ℕ = parts_below from in
-      let long : length (parts_below to) - length front ≡ length run = omega (arith, ap length (below_split from to le), length-append front run) in
-      let whole : parts_below n ≡ front ++ (run ++ rest) =
+      let front : List ℕ = below from in
+      let long : length (below to) - length front ≡ length run = omega (arith, ap length (below_split from to le), length-append front run) in
+      let whole : below n ≡ front ++ (run ++ rest) =
       below_split to n within ∙ ap (λ l. l ++ rest) (below_split from to le) ∙ append_assoc front run rest in
-      ap (λ k. take k (drop (length front) (parts_below n))) long
+      ap (λ k. take k (drop (length front) (below n))) long
       ∙ ap (λ l. take (length run) (drop (length front) l)) whole
       ∙ ap (take (length run)) (drop_front front (run ++ rest))
       ∙ take_front run rest
@@ -63,27 +63,27 @@ module _ (part : ℕ → List ℕ) where
       ap (λ k. flat_map part (range_with_len n k)) one ∙ append-nil (part n)
 
   -- one part more
-  pub below_more : (n : ℕ) → parts_below (n + 1) ≡ parts_below n ++ part n
-  below_more n = below_split n (n + 1) (omega arith) ∙ ap (λ l. parts_below n ++ l) (one_part n)
+  pub below_more : (n : ℕ) → below (n + 1) ≡ below n ++ part n
+  below_more n = below_split n (n + 1) (omega arith) ∙ ap (λ l. below n ++ l) (one_part n)
 
-  pub part_between : (k n : ℕ) → k + 1 ≤ n → slice_range (parts_below n) (length (parts_below k)) (length (parts_below (k + 1))) ≡ part k
+  pub part_between : (k n : ℕ) → k + 1 ≤ n → slice_range (below n) (length (below k)) (length (below (k + 1))) ≡ part k
   part_between k n within = between k (k + 1) n (omega arith) within ∙ one_part k
 
-  pub part_long : (n : ℕ) → length (parts_below (n + 1)) ≡ length (parts_below n) + length (part n)
-  part_long n = ap length (below_more n) ∙ length-append (parts_below n) (part n)
+  pub part_long : (n : ℕ) → length (below (n + 1)) ≡ length (below n) + length (part n)
+  part_long n = ap length (below_more n) ∙ length-append (below n) (part n)
 
   -- the next start
-  pub starts_more : (starts new : List ℕ) (n end : ℕ) → starts ≡ map (λ k. length (parts_below k)) (range_with_len 0 (n + 1))
-      → end ≡ length (parts_below (n + 1)) → new ≡ starts ++ end ∷ []
-      → new ≡ map (λ k. length (parts_below k)) (range_with_len 0 (n + 1 + 1))
+  pub starts_more : (starts new : List ℕ) (n end : ℕ) → starts ≡ map (λ k. length (below k)) (range_with_len 0 (n + 1))
+      → end ≡ length (below (n + 1)) → new ≡ starts ++ end ∷ []
+      → new ≡ map (λ k. length (below k)) (range_with_len 0 (n + 1 + 1))
   starts_more starts new n end are ends is =
-      is ∙ ap (λ l. l ++ end ∷ []) are ∙ ap (λ k. map (λ k. length (parts_below k)) (range_with_len 0 (n + 1)) ++ k ∷ []) ends
-      ∙ sym (map-range_with_len_more (λ k. length (parts_below k)) 0 (n + 1) (n + 1) (omega arith))
+      is ∙ ap (λ l. l ++ end ∷ []) are ∙ ap (λ k. map (λ k. length (below k)) (range_with_len 0 (n + 1)) ++ k ∷ []) ends
+      ∙ sym (map-range_with_len_more (λ k. length (below k)) 0 (n + 1) (n + 1) (omega arith))
 
-  pub start_at : (starts : List ℕ) (n k d : ℕ) → starts ≡ map (λ k. length (parts_below k)) (range_with_len 0 (n + 1)) → k ≤ n
-      → get_or starts k d ≡ length (parts_below k)
+  pub start_at : (starts : List ℕ) (n k d : ℕ) → starts ≡ map (λ k. length (below k)) (range_with_len 0 (n + 1)) → k ≤ n
+      → get_or starts k d ≡ length (below k)
   start_at starts n k d are le =
-      ap (λ l. get_or l k d) are ∙ get_or-map-range_with_len (λ k. length (parts_below k)) 0 (n + 1) k k d (omega (arith, le)) (omega arith)
+      ap (λ l. get_or l k d) are ∙ get_or-map-range_with_len (λ k. length (below k)) 0 (n + 1) k k d (omega (arith, le)) (omega arith)
 
-  pub starts_count : (starts : List ℕ) (n : ℕ) → starts ≡ map (λ k. length (parts_below k)) (range_with_len 0 (n + 1)) → length starts ≡ n + 1
-  starts_count starts n are = ap length are ∙ length-map-range_with_len (λ k. length (parts_below k)) 0 (n + 1)
+  pub starts_count : (starts : List ℕ) (n : ℕ) → starts ≡ map (λ k. length (below k)) (range_with_len 0 (n + 1)) → length starts ≡ n + 1
+  starts_count starts n are = ap length are ∙ length-map-range_with_len (λ k. length (below k)) 0 (n + 1)

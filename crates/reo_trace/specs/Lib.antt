@@ -5,6 +5,7 @@ pub mod Fronts
 pub mod Lawful
 pub mod Laws
 pub mod Lines
+pub mod Parts
 pub mod Passes
 pub mod ReportText
 pub mod Write

@@ -2,11 +2,13 @@
 ghost use Rattle.std.specs.Prelude.{◌≡◌, ◌++◌, flat_map, codes, OnOk};
 ghost use Rattle.reo_trace.specs.Buffer.{HasTaken};
 ghost use Rattle.reo_trace.specs.Calls.{IsFront};
+ghost use Rattle.reo_trace.specs.Fronts.{AreQuotes};
 ghost use Rattle.reo_trace.specs.ReportText.{op_text, call_line, call_lines};
 
 use crate::Called;
 use crate::lines::{append, bytes_at, push_bytes, push_datum, push_node};
 use crate::numbers::push_place;
+use crate::parts::Parts;
 use crate::shown::Shown;
 use reo_net::Net;
 use reo_value::{Lexicon, Op};
@@ -91,18 +93,20 @@ fn push_call(
     net: &Net,
     nodes: &Lexicon,
     texts: &Lexicon,
+    quotes: &Parts,
     shown: &mut Shown,
     person: &[u8],
     front: &mut CallFront,
     call: &Called,
 ) -> Result<(), AllocError>
-    requires { IsFront net.now nodes.now person.now front.old }
+    requires front { IsFront net.now nodes.now person.now front.old }
+    requires quotes { AreQuotes texts.now quotes.now }
     ensures front { OnOk result (IsFront net.now nodes.now person.now front.new) }
     ensures line { OnOk result (HasTaken buffer.old buffer.new (call_line net.now nodes.now texts.now person.now call.now)) }
 {
     turn_to_op(front, net, nodes, person, call.op)?;
     append(buffer, front.bytes.as_slice())?;
-    push_datum(buffer, texts, shown, call.value)?;
+    push_datum(buffer, texts, quotes, shown, call.value)?;
     push_place(buffer, call.number)
 }
 
@@ -111,16 +115,20 @@ fn push_own_calls(
     net: &Net,
     nodes: &Lexicon,
     texts: &Lexicon,
+    quotes: &Parts,
     shown: &mut Shown,
     front: &mut CallFront,
     person: &[u8],
     own: &[Called],
 ) -> Result<(), AllocError>
+    requires { AreQuotes texts.now quotes.now }
     ensures { OnOk result (HasTaken buffer.old buffer.new (flat_map (call_line net.now nodes.now texts.now person.now) own.now)) }
 {
     make(front, net, nodes, person, true, 0)?;
     for call in own {
-        push_call(buffer, net, nodes, texts, shown, person, front, call)?;
+        push_call(
+            buffer, net, nodes, texts, quotes, shown, person, front, call,
+        )?;
     }
     Ok(())
 }
@@ -132,10 +140,12 @@ pub(crate) fn push_calls(
     net: &Net,
     nodes: &Lexicon,
     texts: &Lexicon,
+    quotes: &Parts,
     shown: &mut Shown,
     people: &Lexicon,
     calls: &[Items<Called>],
 ) -> Result<(), AllocError>
+    requires { AreQuotes texts.now quotes.now }
     ensures { OnOk result (HasTaken buffer.old buffer.new (call_lines net.now nodes.now texts.now people.now 0 calls.now)) }
 {
     let mut front = CallFront {
@@ -146,7 +156,9 @@ pub(crate) fn push_calls(
     for (number, own) in calls.iter().enumerate() {
         let person = bytes_at(people, number);
         let own = own.as_slice();
-        push_own_calls(buffer, net, nodes, texts, shown, &mut front, person, own)?;
+        push_own_calls(
+            buffer, net, nodes, texts, quotes, shown, &mut front, person, own,
+        )?;
     }
     Ok(())
 }

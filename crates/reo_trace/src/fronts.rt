@@ -1,27 +1,15 @@
-//! What stands before each value in a step's line, made once for each name: it is appended at once.
-ghost use Rattle.std.specs.Prelude.{◌≡◌, ◌+◌, ◌≤◌, ◌<◌, length, IfOk, OnOk, vec_len};
-ghost use Rattle.reo_net.specs.Names.{name_count};
+//! What stands before each value in a step's line, made once for each name.
+ghost use Rattle.std.specs.Prelude.{◌≤◌, IfOk, IfSome, OnOk, vec_len};
 ghost use Rattle.reo_trace.specs.Buffer.{HasTaken, Takes};
-ghost use Rattle.reo_trace.specs.Fronts.{AreFronts, front_text, fronts_below};
+ghost use Rattle.reo_trace.specs.Fronts.{AreFronts, front_text};
+ghost use Rattle.reo_trace.specs.Parts.{IsShort};
 
-use crate::lines::{append_short, push_bytes, push_name};
+use crate::lines::{push_bytes, push_name};
+use crate::parts::{Parts, push_part, short_part};
+use crate::room::Part;
 use reo_net::Net;
 use reo_value::Lexicon;
 use std::alloc::{AllocError, Global};
-
-/// The fronts of all names, one behind the other, and some bytes more; where each begins, and where the last ends.
-#[derive(Drop)]
-pub(crate) struct Fronts {
-    pub(crate) bytes: Vec<u8>,
-    starts: Vec<usize>,
-}
-
-/// Where a front begins and ends.
-#[derive(Clone, Copy)]
-pub(crate) struct Place {
-    pub(crate) from: usize,
-    pub(crate) to: usize,
-}
 
 fn push_front(buffer: &mut Vec<u8>, net: &Net, nodes: &Lexicon, name: u32) -> Result<(), AllocError>
     ensures { Takes buffer.old buffer.new result (front_text net.now nodes.now name) }
@@ -32,7 +20,7 @@ fn push_front(buffer: &mut Vec<u8>, net: &Net, nodes: &Lexicon, name: u32) -> Re
 }
 
 /// The fronts of all names of the circuit.
-pub(crate) fn fronts_of(alloc: Global, net: &Net, nodes: &Lexicon) -> Result<Fronts, AllocError>
+pub(crate) fn fronts_of(alloc: Global, net: &Net, nodes: &Lexicon) -> Result<Parts, AllocError>
     ensures { IfOk result (AreFronts net.now nodes.now) }
 {
     let mut bytes = Vec::new(alloc);
@@ -42,24 +30,7 @@ pub(crate) fn fronts_of(alloc: Global, net: &Net, nodes: &Lexicon) -> Result<Fro
         starts.push(bytes.len())?;
     }
     bytes.extend_from_slice(&[0; 32])?;
-    Ok(Fronts { bytes, starts })
-}
-
-#[inline(always)]
-pub(crate) fn place_of(net: &Net, nodes: &Lexicon, fronts: &Fronts, name: u32) -> Place
-    requires fronts { AreFronts net.now nodes.now fronts.now }
-    requires within { name < name_count net.now }
-    ensures from { result.from ≡ length (fronts_below net.now nodes.now name) }
-    ensures to { result.to ≡ length (fronts_below net.now nodes.now (name + 1)) }
-    ensures order { result.from ≤ result.to }
-    ensures within { result.to + 32 ≤ length fronts.now.bytes.items }
-{
-    let starts = fronts.starts.as_slice();
-    let name = name as usize;
-    Place {
-        from: starts[name],
-        to: starts[name + 1],
-    }
+    Ok(Parts { bytes, starts })
 }
 
 /// Appends the front of a name, at once where it is made.
@@ -68,7 +39,7 @@ pub(crate) fn push_front_of(
     buffer: &mut Vec<u8>,
     net: &Net,
     nodes: &Lexicon,
-    fronts: &Fronts,
+    fronts: &Parts,
     name: u32,
 ) -> Result<(), AllocError>
     requires { AreFronts net.now nodes.now fronts.now }
@@ -78,11 +49,22 @@ pub(crate) fn push_front_of(
     if name >= net.names() {
         return push_front(buffer, net, nodes, name);
     }
-    let place = place_of(net, nodes, fronts, name);
-    let bytes = fronts.bytes.as_slice();
-    let count = place.to - place.from;
-    if count <= 32 {
-        return append_short(buffer, bytes, place.from, count);
+    push_part(buffer, fronts, name as usize)
+}
+
+/// The front of a name, where it is made and short.
+#[inline(always)]
+pub(crate) fn short_front<'a>(
+    net: &Net,
+    nodes: &Lexicon,
+    fronts: &'a Parts,
+    name: u32,
+) -> Option<Part<'a>>
+    requires { AreFronts net.now nodes.now fronts.now }
+    ensures { IfSome result (IsShort (front_text net.now nodes.now name)) }
+{
+    if name >= net.names() {
+        return None;
     }
-    push_bytes(buffer, &bytes[place.from..place.to])
+    short_part(fronts, name as usize)
 }

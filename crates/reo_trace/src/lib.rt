@@ -6,6 +6,8 @@ mod fronts;
 pub mod laws;
 mod lines;
 mod numbers;
+mod parts;
+mod quotes;
 mod recorder;
 mod report;
 mod report_lines;

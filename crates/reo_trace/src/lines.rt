@@ -5,12 +5,14 @@ ghost use Rattle.std.specs.List.{list_all};
 ghost use Rattle.reo_value.specs.Lexicon.{text_at};
 ghost use Rattle.reo_trace.specs.Buffer.{HasTaken, HasWritten, Takes};
 ghost use Rattle.reo_trace.specs.Escapes as escapes;
-ghost use Rattle.reo_trace.specs.Fronts.{AreFronts};
+ghost use Rattle.reo_trace.specs.Fronts.{AreFronts, AreQuotes, quoted_text};
 ghost use Rattle.reo_trace.specs.ReportText.{escaped, value_text, node_text, port_text, end_text, name_text, pair_text, step_line, end_line};
 
 use crate::Ending;
-use crate::fronts::{Fronts, push_front_of};
+use crate::fronts::push_front_of;
 use crate::numbers::StepFront;
+use crate::parts::Parts;
+use crate::quotes::push_quote_of;
 use crate::room::{make_room, put_byte};
 use crate::runs::write_run;
 use crate::shown::{Shown, push_shown};
@@ -144,12 +146,21 @@ pub fn push_value(buffer: &mut Vec<u8>, texts: &Lexicon, value: Value) -> Result
 {
     match value {
         Value::Int(number) => push_signed(buffer, number.get()),
-        Value::Sym(text) => {
-            push_bytes(buffer, b"\"")?;
-            push_text(buffer, bytes_at(texts, text as usize))?;
-            push_bytes(buffer, b"\"")
-        }
+        Value::Sym(text) => push_quoted(buffer, texts, text),
     }
+}
+
+/// Appends a text between quotes.
+pub(crate) fn push_quoted(
+    buffer: &mut Vec<u8>,
+    texts: &Lexicon,
+    text: u32,
+) -> Result<(), AllocError>
+    ensures { Takes buffer.old buffer.new result (quoted_text texts.now text) }
+{
+    push_bytes(buffer, b"\"")?;
+    push_text(buffer, bytes_at(texts, text as usize))?;
+    push_bytes(buffer, b"\"")
 }
 
 pub(crate) fn push_node(
@@ -210,15 +221,17 @@ pub fn push_name(
 pub(crate) fn push_datum(
     buffer: &mut Vec<u8>,
     texts: &Lexicon,
+    quotes: &Parts,
     shown: &mut Shown,
     value: Value,
 ) -> Result<(), AllocError>
+    requires { AreQuotes texts.now quotes.now }
     ensures taken { OnOk result (HasTaken buffer.old buffer.new (value_text texts.now value)) }
     ensures grows { vec_len buffer.old ≤ vec_len buffer.new }
 {
     match value {
         Value::Int(number) => push_shown(buffer, shown, number.get()),
-        Value::Sym(_) => push_value(buffer, texts, value),
+        Value::Sym(text) => push_quote_of(buffer, texts, quotes, text),
     }
 }
 
@@ -228,16 +241,18 @@ fn push_pair(
     net: &Net,
     nodes: &Lexicon,
     texts: &Lexicon,
-    fronts: &Fronts,
+    fronts: &Parts,
+    quotes: &Parts,
     shown: &mut Shown,
     pair: (u32, Value),
 ) -> Result<(), AllocError>
-    requires { AreFronts net.now nodes.now fronts.now }
+    requires fronts { AreFronts net.now nodes.now fronts.now }
+    requires quotes { AreQuotes texts.now quotes.now }
     ensures taken { OnOk result (HasTaken buffer.old buffer.new (pair_text net.now nodes.now texts.now pair)) }
     ensures grows { vec_len buffer.old ≤ vec_len buffer.new }
 {
     push_front_of(buffer, net, nodes, fronts, pair.0)?;
-    push_datum(buffer, texts, shown, pair.1)
+    push_datum(buffer, texts, quotes, shown, pair.1)
 }
 
 fn push_pairs(
@@ -245,16 +260,18 @@ fn push_pairs(
     net: &Net,
     nodes: &Lexicon,
     texts: &Lexicon,
-    fronts: &Fronts,
+    fronts: &Parts,
+    quotes: &Parts,
     shown: &mut Shown,
     pairs: &[(u32, Value)],
 ) -> Result<(), AllocError>
-    requires { AreFronts net.now nodes.now fronts.now }
+    requires fronts { AreFronts net.now nodes.now fronts.now }
+    requires quotes { AreQuotes texts.now quotes.now }
     ensures taken { OnOk result (HasTaken buffer.old buffer.new (flat_map (pair_text net.now nodes.now texts.now) pairs.now)) }
     ensures grows { vec_len buffer.old ≤ vec_len buffer.new }
 {
     for pair in pairs {
-        push_pair(buffer, net, nodes, texts, fronts, shown, *pair)?;
+        push_pair(buffer, net, nodes, texts, fronts, quotes, shown, *pair)?;
     }
     Ok(())
 }
@@ -269,17 +286,19 @@ fn push_rest(
     net: &Net,
     nodes: &Lexicon,
     texts: &Lexicon,
-    fronts: &Fronts,
+    fronts: &Parts,
+    quotes: &Parts,
     shown: &mut Shown,
     pairs: &[(u32, Value)],
 ) -> Result<usize, AllocError>
     requires fronts { AreFronts net.now nodes.now fronts.now }
+    requires quotes { AreQuotes texts.now quotes.now }
     requires used { used ≤ vec_len buffer.old }
     ensures written { IfOk result (λ end. HasWritten buffer.old.items used buffer.new.items end (flat_map (pair_text net.now nodes.now texts.now) pairs.now ++ codes "\n")) }
     ensures grows { used ≤ vec_len buffer.new }
 {
     buffer.truncate(used);
-    push_pairs(buffer, net, nodes, texts, fronts, shown, pairs)?;
+    push_pairs(buffer, net, nodes, texts, fronts, quotes, shown, pairs)?;
     push_byte(buffer, b'\n')?;
     Ok(buffer.len())
 }
@@ -291,12 +310,14 @@ pub(crate) fn push_step(
     net: &Net,
     nodes: &Lexicon,
     texts: &Lexicon,
-    fronts: &Fronts,
+    fronts: &Parts,
+    quotes: &Parts,
     shown: &mut Shown,
     front: &StepFront,
     pairs: &[(u32, Value)],
 ) -> Result<usize, AllocError>
     requires fronts { AreFronts net.now nodes.now fronts.now }
+    requires quotes { AreQuotes texts.now quotes.now }
     requires used { used ≤ vec_len buffer.old }
     ensures written { IfOk result (λ end. HasWritten buffer.old.items used buffer.new.items end (step_line net.now nodes.now texts.now front.now (record { pairs = pairs.now }))) }
     ensures grows { used ≤ vec_len buffer.new }
@@ -316,6 +337,7 @@ pub(crate) fn push_step(
         nodes,
         texts,
         fronts,
+        quotes,
         shown,
         &pairs[..most],
     );
@@ -329,6 +351,7 @@ pub(crate) fn push_step(
         nodes,
         texts,
         fronts,
+        quotes,
         shown,
         &pairs[run.pairs..],
     )

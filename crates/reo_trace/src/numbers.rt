@@ -3,7 +3,7 @@ ghost use Rattle.std.specs.Prelude.{◌≡◌, ◌+◌, ◌^◌, ◌<◌, ◌≤
 ghost use Rattle.reo_trace.specs.Buffer.{HasTaken, HasWritten};
 
 use crate::lines::append_short;
-use crate::room::put_short;
+use crate::room::{Part, put_short};
 use itoa::write_digits;
 use std::alloc::AllocError;
 use std::marker::Model;
@@ -91,6 +91,14 @@ impl StepFront {
         ensures end { result ≤ used + 32 }
         ensures length { length room.new ≡ length room.old }
     {
-        put_short(room, used, &self.bytes, self.start, 32 - self.start)
+        put_short(
+            room,
+            used,
+            Part {
+                bytes: &self.bytes,
+                from: self.start,
+                count: 32 - self.start,
+            },
+        )
     }
 }

@@ -6,9 +6,11 @@ ghost use Rattle.reo_trace.specs.Lines.{no_lines, after_steps};
 ghost use Rattle.reo_trace.specs.ReportText.{report_text};
 
 use crate::calls::push_calls;
-use crate::fronts::{Fronts, fronts_of};
+use crate::fronts::fronts_of;
 use crate::lines::{push_ending, push_step};
 use crate::numbers::StepFront;
+use crate::parts::Parts;
+use crate::quotes::quotes_of;
 use crate::shown::Shown;
 use crate::{Called, Ending, Recorder};
 use reo_net::Net;
@@ -24,7 +26,8 @@ pub struct ReportLines<'a> {
     net: &'a Net,
     nodes: &'a Lexicon,
     texts: &'a Lexicon,
-    fronts: Fronts,
+    fronts: Parts,
+    quotes: Parts,
     shown: Shown,
     text: Vec<u8>,
     used: usize,
@@ -35,7 +38,7 @@ impl<'a> Model for ReportLines<'a> {
     ghost use Rattle.std.specs.Prelude.{◌≤◌, take, vec_len};
     ghost use Rattle.std.specs.Coded.{codes};
     ghost use Rattle.reo_guard.specs.contracts.guard.Guard as guard;
-    ghost use Rattle.reo_trace.specs.Fronts.{AreFronts};
+    ghost use Rattle.reo_trace.specs.Fronts.{AreFronts, AreQuotes};
     ghost use Rattle.reo_trace.specs.Lines.{LinesState};
 
     ghost Value = { LinesState };
@@ -50,7 +53,7 @@ impl<'a> Model for ReportLines<'a> {
       count = l.front;
     } };
 
-    ghost invariant = { λ l. AreFronts l.net.now l.nodes.now l.fronts × (l.front ≤ l.used) × (l.used ≤ vec_len l.text) };
+    ghost invariant = { λ l. AreFronts l.net.now l.nodes.now l.fronts × AreQuotes l.texts.now l.quotes × (l.front ≤ l.used) × (l.used ≤ vec_len l.text) };
 }
 
 impl<'a> ReportLines<'a> {
@@ -64,12 +67,14 @@ impl<'a> ReportLines<'a> {
         ensures { IfOk result (λ lines. lines ≡ no_lines net.now nodes.now texts.now) }
     {
         let fronts = fronts_of(alloc, net, nodes)?;
+        let quotes = quotes_of(alloc, texts)?;
         Ok(ReportLines {
             alloc,
             net,
             nodes,
             texts,
             fronts,
+            quotes,
             shown: Shown::new(0),
             text: Vec::new(alloc),
             used: 0,
@@ -90,7 +95,15 @@ impl<'a> ReportLines<'a> {
         text.truncate(self.used);
         let mut shown = self.shown;
         push_calls(
-            &mut text, self.alloc, self.net, self.nodes, self.texts, &mut shown, people, calls,
+            &mut text,
+            self.alloc,
+            self.net,
+            self.nodes,
+            self.texts,
+            &self.quotes,
+            &mut shown,
+            people,
+            calls,
         )?;
         push_ending(&mut text, ending)?;
         Ok(text)
@@ -111,6 +124,7 @@ impl<'a> Recorder for ReportLines<'a> {
             self.nodes,
             self.texts,
             &self.fronts,
+            &self.quotes,
             &mut self.shown,
             &self.front,
             pairs,

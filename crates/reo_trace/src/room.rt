@@ -1,6 +1,7 @@
 //! A room behind the text of a buffer, into which parts of a line are written with one look at how long it is.
-ghost use Rattle.std.specs.Prelude.{◌≡◌, ℕ, ◌+◌, ◌≤◌, [], ◌∷◌, length, take, drop, OnOk, vec_len};
+ghost use Rattle.std.specs.Prelude.{◌≡◌, ℕ, ◌+◌, ◌≤◌, [], ◌∷◌, length, take, OnOk, vec_len};
 ghost use Rattle.reo_trace.specs.Buffer.{HasWritten};
+ghost use Rattle.reo_trace.specs.Parts.{part_text};
 
 use std::alloc::AllocError;
 
@@ -36,27 +37,29 @@ fn widen(buffer: &mut Vec<u8>, len: usize) -> Result<(), AllocError>
     Ok(())
 }
 
-/// Writes so many bytes from a place on, and what stands behind them up to 32: bytes that are as long at each call need no
-/// call to be copied. Answers where they end.
+/// So many bytes from a place on, behind which at least as many stand as make 32.
+#[derive(Drop)]
+pub(crate) struct Part<'a> {
+    pub(crate) bytes: &'a [u8],
+    pub(crate) from: usize,
+    pub(crate) count: usize,
+}
+
+/// Writes a short part, and what stands behind it up to 32 bytes: bytes that are as long at each call need no call to be
+/// copied. Answers where it ends.
 #[inline(always)]
-pub(crate) fn put_short(
-    room: &mut [u8],
-    used: usize,
-    bytes: &[u8],
-    from: usize,
-    count: usize,
-) -> usize
+pub(crate) fn put_short(room: &mut [u8], used: usize, part: Part<'_>) -> usize
     requires room { used + 32 ≤ length room.old }
-    requires bytes { from + 32 ≤ length bytes.now }
-    requires count { count ≤ 32 }
-    ensures written { HasWritten room.old used room.new result (take count (drop from bytes.now)) }
-    ensures end { result ≡ used + count }
+    requires part { part.from + 32 ≤ length part.bytes.now }
+    requires count { part.count ≤ 32 }
+    ensures written { HasWritten room.old used room.new result (part_text part.entry) }
+    ensures end { result ≤ used + 32 }
     ensures length { length room.new ≡ length room.old }
 {
-    let mut part = [0; 32];
-    part.copy_from_slice(&bytes[from..from + 32]);
-    room[used..used + 32].copy_from_slice(&part);
-    used + count
+    let mut copied = [0; 32];
+    copied.copy_from_slice(&part.bytes[part.from..part.from + 32]);
+    room[used..used + 32].copy_from_slice(&copied);
+    used + part.count
 }
 
 /// Writes one byte, and answers where it ends.

@@ -1,10 +1,12 @@
 //! The first names of a line with their values, written behind one another into one room.
 ghost use Rattle.std.specs.Prelude.{◌≡◌, ◌+◌, ◌*◌, ◌≤◌, length, take, flat_map};
 ghost use Rattle.reo_trace.specs.Buffer.{HasWritten};
-ghost use Rattle.reo_trace.specs.Fronts.{AreFronts};
+ghost use Rattle.reo_trace.specs.Fronts.{AreFronts, AreQuotes};
 ghost use Rattle.reo_trace.specs.ReportText.{pair_text};
 
-use crate::fronts::{Fronts, place_of};
+use crate::fronts::short_front;
+use crate::parts::Parts;
+use crate::quotes::short_datum;
 use crate::room::put_short;
 use crate::shown::Shown;
 use reo_net::Net;
@@ -17,7 +19,7 @@ pub(crate) struct Run {
     pub(crate) used: usize,
 }
 
-/// Writes the pairs up to the first of a text or of a long name. The room has 64 bytes for each.
+/// Writes the pairs up to the first that is long. The room has 64 bytes for each.
 #[inline(always)]
 pub(crate) fn write_run(
     room: &mut [u8],
@@ -25,11 +27,13 @@ pub(crate) fn write_run(
     net: &Net,
     nodes: &Lexicon,
     texts: &Lexicon,
-    fronts: &Fronts,
+    fronts: &Parts,
+    quotes: &Parts,
     shown: &mut Shown,
     pairs: &[(u32, Value)],
 ) -> Run
     requires fronts { AreFronts net.now nodes.now fronts.now }
+    requires quotes { AreQuotes texts.now quotes.now }
     requires room { used + 64 * length pairs.now ≤ length room.old }
     ensures pairs { result.pairs ≤ length pairs.now }
     ensures used { result.used ≤ used + 64 * length pairs.now }
@@ -37,23 +41,15 @@ pub(crate) fn write_run(
     ensures length { length room.new ≡ length room.old }
 {
     let mut run = Run { pairs: 0, used };
-    let names = net.names();
-    let bytes = fronts.bytes.as_slice();
     for pair in pairs {
-        let Value::Int(number) = pair.1 else {
+        let Some(front) = short_front(net, nodes, fronts, pair.0) else {
             return run;
         };
-        if pair.0 >= names {
+        let Some(datum) = short_datum(texts, quotes, shown, pair.1) else {
             return run;
-        }
-        let place = place_of(net, nodes, fronts, pair.0);
-        let count = place.to - place.from;
-        if count > 32 {
-            return run;
-        }
-        shown.turn_to(number.get());
-        let named = put_short(room, run.used, bytes, place.from, count);
-        run.used = shown.put(room, named);
+        };
+        let named = put_short(room, run.used, front);
+        run.used = put_short(room, named, datum);
         run.pairs += 1;
     }
     run

@@ -1,10 +1,11 @@
 //! A number's text that is kept while the number comes again: the names of a step mostly have one value.
-ghost use Rattle.std.specs.Prelude.{◌≡◌, ◌+◌, ◌≤◌, length, OnOk, vec_len};
+ghost use Rattle.std.specs.Prelude.{◌≡◌, ◌≤◌, OnOk, vec_len};
 ghost use Rattle.std.specs.Fmt.{signed_decimal};
-ghost use Rattle.reo_trace.specs.Buffer.{HasTaken, HasWritten};
+ghost use Rattle.reo_trace.specs.Buffer.{HasTaken};
+ghost use Rattle.reo_trace.specs.Parts.{IsShort};
 
 use crate::lines::append_short;
-use crate::room::put_short;
+use crate::room::Part;
 use itoa::Integer;
 use std::alloc::AllocError;
 use std::marker::Model;
@@ -53,15 +54,16 @@ impl Shown {
         }
     }
 
-    /// Writes the text, and answers where it ends.
+    /// The text.
     #[inline(always)]
-    pub(crate) fn put(&self, room: &mut [u8], used: usize) -> usize
-        requires { used + 32 ≤ length room.old }
-        ensures written { HasWritten room.old used room.new result (signed_decimal self.now) }
-        ensures end { result ≤ used + 32 }
-        ensures length { length room.new ≡ length room.old }
+    pub(crate) fn part(&self) -> Part<'_>
+        ensures { IsShort (signed_decimal self.now) result }
     {
-        put_short(room, used, &self.bytes, self.start, 40 - self.start)
+        Part {
+            bytes: &self.bytes,
+            from: self.start,
+            count: 40 - self.start,
+        }
     }
 
     #[inline(always)]

@@ -2,7 +2,7 @@ use Rattle.std.proofs.Common.{◌≡◌, sym, ap, ◌∙◌, ◌++◌, ◌+◌, 
 use Rattle.reo_net.specs.Names.{name_count}
 use Rattle.reo_trace.specs.Fronts.{front_text}
 use Rattle.reo_trace.proofs.PartLemmas.{below_more, part_long, starts_more}
-use Rattle.reo_trace.proofs.FrontLemmas.{are_fronts}
+use Rattle.reo_trace.proofs.PlaceLemmas.{are_parts}
 use Rattle.reo_trace.proofs.fronts.fronts_of.Goals as goal
 
 pub loop-name-preserved : goal.loop-name-preserved
@@ -16,4 +16,4 @@ loop-name-preserved c =
 pub returns : goal.returns
 returns c =
     let all : c.loop-name.name ≡ name_count c.args.net.now = omega (arith, c.loop-name-test.false, c.loop-name.auto.name-end, c.names-name-end.ensures.names) in
-    are_fronts c.args.net.now c.args.nodes.now _ c.loop-name.name all (c.in_ok-extend_from_slice.ensures.items ∙ ap (λ l. l ++ replicate 32 0) c.loop-name.invariant.0) c.loop-name.invariant.2
+    are_parts (front_text c.args.net.now c.args.nodes.now) _ c.loop-name.name _ all (c.in_ok-extend_from_slice.ensures.items ∙ ap (λ l. l ++ replicate 32 0) c.loop-name.invariant.0) c.loop-name.invariant.2
