@@ -5,7 +5,7 @@ ghost use Rattle.reo_graph.specs.Closure.{rows, bit};
 ghost use Rattle.reo_graph.specs.Edges.{following, IsLooped};
 
 use crate::closure::{closed, is_marked, row_at};
-use crate::walk::{ranks_of, rises};
+use crate::walk::{are_ranks, ranks_of, rises};
 use std::alloc::{AllocError, Global};
 
 /// The least vertex from which a path of these edges leads back to it, where there is one. Vertices may have any numbers.
@@ -13,6 +13,9 @@ use std::alloc::{AllocError, Global};
 pub fn least_on_loop(alloc: Global, edges: &[(u32, u32)]) -> Result<Option<u32>, AllocError>
     ensures { IfOk result (IsLeast (IsOnLoop edges.now)) }
 {
+    if are_ranks(edges) {
+        return Ok(None);
+    }
     if rises(&ranks_of(alloc, edges)?, edges) {
         return Ok(None);
     }

@@ -68,6 +68,14 @@ fn is_last(counts: &mut BTreeMap<u32, u32>, vertex: u32) -> bool {
     }
 }
 
+/// Whether each edge leads to a greater vertex: then the vertices are ranks themselves, as where they are numbered along
+/// the edges.
+pub(crate) fn are_ranks(edges: &[(u32, u32)]) -> bool
+    ensures { OnTrue result (Rise (λ vertex. vertex) edges.now) }
+{
+    edges.iter().all(|edge| edge.0 < edge.1)
+}
+
 /// Whether each edge leads to a greater rank.
 pub(crate) fn rises(ranks: &BTreeMap<u32, u32>, edges: &[(u32, u32)]) -> bool
     ensures { OnTrue result (Rise (rank_in ranks.now.entries) edges.now) }

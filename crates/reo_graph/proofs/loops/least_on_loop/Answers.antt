@@ -5,6 +5,9 @@ use Rattle.reo_graph.specs.Closure.{bit, goes}
 use Rattle.reo_graph.specs.Edges.{rank_in}
 use Rattle.reo_graph.proofs.loops.least_on_loop.Goals as goal
 
+pub returns-then-are_ranks : goal.returns-then-are_ranks
+returns-then-are_ranks c = rise_has_no_loop c.args.edges.now (λ vertex. vertex) c.if-are_ranks.ensures
+
 pub returns-then-rises : goal.returns-then-rises
 returns-then-rises c = rise_has_no_loop c.args.edges.now (rank_in c.in_ok-ranks_of.field-0.entries) c.if-rises.ensures
 
