@@ -120,11 +120,7 @@ pub fn node_template(alloc: Global, net: &Net, node: u32) -> Result<Template, Al
 pub fn named_template(alloc: Global, net: &Net, names: &[u32]) -> Result<Template, AllocError>
     ensures { IfOk result (λ t. t ≡ record { names = names.now; links = node_links net.now names.now }) }
 {
-    let mut list = Vec::new(alloc);
-    list.extend_from_slice(names)?;
     let links = node_links(alloc, net, names)?;
-    Ok(Template {
-        names: Items::from_vec(list),
-        links,
-    })
+    let names = Items::from_slice(alloc, names)?;
+    Ok(Template { names, links })
 }

@@ -11,5 +11,6 @@ mod table;
 mod trail;
 mod web;
 
+pub use found::Row;
 pub use table::{Table, TableRefusal, table_of};
 pub use web::{Automaton, Web};

@@ -23,11 +23,11 @@ const MOST_VERTICES: u32 = 65_536;
 /// As many firings as a web may have.
 const MOST_FIRINGS: u32 = 4_096;
 
-/// How many vertices growth went over, and the connected firings in table order.
+/// How many vertices growth went over, and the rows of the connected firings in table order.
 #[derive(Drop)]
 pub struct Table {
     pub growth: u32,
-    pub firings: Items<Items<u32>>,
+    pub rows: Vec<Row>,
 }
 
 /// Why a web has no table.
@@ -65,7 +65,7 @@ fn empty_lists(alloc: Global, count: u32) -> Result<Vec<Items<u32>>, AllocError>
     ensures long { IfOk result (λ table. length table.items ≡ count) }
     ensures empty { IfOk result (λ table. (k : ℕ) (d : List ℕ) → k < length table.items → slice_index_or table.items k d ≡ []) }
 {
-    let mut table = Vec::new(alloc);
+    let mut table = Vec::with_capacity(alloc, count as usize)?;
     for _ in 0..count {
         table.push(Items::new(alloc))?;
     }
@@ -154,24 +154,13 @@ fn search(alloc: Global, ground: &Ground) -> Result<Option<Found>, AllocError>
     grow_all(ground, &mut marking, found)
 }
 
-/// The names of rows.
-fn names_of_rows(alloc: Global, rows: Vec<Row>) -> Result<Items<Items<u32>>, AllocError>
-    ensures { IfOk result (λ lists. lists ≡ map names_in rows.items) }
-{
-    let lists = rows
-        .into_iter()
-        .map(|row| Items::from_vec(row.names))
-        .collect(alloc)?;
-    Ok(Items::from_vec(lists))
-}
-
-/// The names of rows, the least row first, each once.
-fn sorted(alloc: Global, mut rows: Vec<Row>) -> Result<Items<Items<u32>>, AllocError>
-    ensures { IfOk result (AreSortedRows rows.items) }
+/// The rows, the least first, each once.
+fn sorted(mut rows: Vec<Row>) -> Result<Vec<Row>, AllocError>
+    ensures { IfOk result (λ kept. AreSortedRows rows.items (map names_in kept.items)) }
 {
     rows.sort()?;
     rows.dedup();
-    names_of_rows(alloc, rows)
+    Ok(rows)
 }
 
 /// The table of a web, where neither its vertices nor its firings are too many. A vertex costs the marks of the names of
@@ -179,7 +168,7 @@ fn sorted(alloc: Global, mut rows: Vec<Row>) -> Result<Items<Items<u32>>, AllocE
 pub fn table_of(alloc: Global, web: Web) -> Result<Table, TableRefusal>
     requires web { IsWeb web }
     requires few { AreFew web }
-    ensures table { IfOk result (λ table. IsTableOf web table.growth table.firings) }
+    ensures table { IfOk result (λ table. IsTableOf web table.growth (map names_in table.rows.items)) }
     ensures refused { IfErr result (Refuses web) }
 {
     let holders = holders_of(alloc, &web)?;
@@ -196,6 +185,6 @@ pub fn table_of(alloc: Global, web: Web) -> Result<Table, TableRefusal>
         return Err(TableRefusal::TooLarge(found.count));
     }
     let growth = MOST_VERTICES - found.room;
-    let firings = sorted(alloc, found.rows)?;
-    Ok(Table { growth, firings })
+    let rows = sorted(found.rows)?;
+    Ok(Table { growth, rows })
 }

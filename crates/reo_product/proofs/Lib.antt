@@ -5,6 +5,7 @@ pub mod CountLemmas
 pub mod SplitLemmas
 pub mod PlaceLemmas
 pub mod PlacedLemmas
+pub mod TurnLemmas
 pub mod MadeLemmas
 pub mod CellLemmas
 pub mod WebLemmas

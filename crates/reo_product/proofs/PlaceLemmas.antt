@@ -1,21 +1,12 @@
 -- Lists of names and of their places, as they grow.
-use Rattle.std.proofs.Common.{◌≡◌, ℕ, zero, suc, ◌+◌, ◌<◌, ◌≤◌, List, [], ◌∷◌, ◌++◌, length, take, get_or, slice_get, Some, inl, inr, Err, refl, sym, ◌∙◌, ap, subst, arith}
+use Rattle.std.proofs.Common.{◌≡◌, ℕ, zero, suc, ◌<◌, ◌≤◌, List, [], ◌∷◌, ◌++◌, length, get_or, slice_get, Some, inl, inr, Err, refl, ap, subst, arith}
 use Rattle.std.specs.Ordering.{nat_cmp}
 use Rattle.std.specs.List.Sorted.{IsStrictlyIncreasing, IsBinarySearchResult}
 use Rattle.std.proofs.lemmas.Bool.{cases_order, cases_lt}
-use Rattle.std.proofs.lemmas.List.{map-append, take_more}
-use Rattle.std.proofs.lemmas.List.Elements.{All-push}
 use Rattle.std.proofs.lemmas.List.Sorted.{searched}
 use Rattle.std.proofs.lemmas.List.Kept.{AllPairs-from_increasing}
 use Rattle.reo_product.specs.RegionWeb.{name_at}
-use Rattle.reo_product.specs.Places.{ArePlacesOf, ArePaired}
-
-pub place_more : (names list places : List ℕ) (i place : ℕ) → i < length list → place < length names → name_at names place ≡ get_or list i 0
-    → ArePlacesOf names (take i list) places → ArePlacesOf names (take (i + 1) list) (places ++ place ∷ [])
-place_more names list places i place within below is before = record {
-  named = map-append (name_at names) places (place ∷ []) ∙ ap (λ xs. xs ++ name_at names place ∷ []) before.named ∙ ap (λ n. take i list ++ n ∷ []) is ∙ sym (take_more list i 0 within);
-  within = All-push (λ place. place < length names) places place before.within below;
-}
+use Rattle.reo_product.specs.Places.{ArePaired}
 
 pub paired_push : {A B : Type 0} (R : A → B → Type 0) (xs : List A) (ys : List B) (x : A) (y : B) → ArePaired R xs ys → R x y → ArePaired R (xs ++ x ∷ []) (ys ++ y ∷ [])
 paired_push R [] [] x y all one = (one, tt)

@@ -1,5 +1,5 @@
 //! Names by their places among the names of a region.
-ghost use Rattle.std.specs.Prelude.{◌≡◌, ◌≢◌, ℕ, ◌<◌, ◌^◌, length, map, All, MatchOption, IfOk};
+ghost use Rattle.std.specs.Prelude.{◌≡◌, ◌≢◌, ℕ, ◌<◌, ◌^◌, length, map, reverse, All, MatchOption, IfOk};
 ghost use Rattle.std.specs.List.Sorted.{IsStrictlyIncreasing};
 ghost use Rattle.reo_product.specs.RegionWeb.{name_at};
 ghost use Rattle.reo_product.specs.Places.{AreEachPlacesOf, AreKnown, ArePlacesOf, IsPlacedTemplate};
@@ -34,54 +34,55 @@ fn known_place(names: &[u32], name: u32) -> u32
     }
 }
 
-/// The places of names.
-fn places_of(alloc: Global, names: &[u32], list: &[u32]) -> Result<Items<u32>, AllocError>
+/// The places of names, written over them.
+fn places_of(names: &[u32], mut list: Items<u32>) -> Items<u32>
     requires rising { IsStrictlyIncreasing names.now }
     requires few { length names.now < 2 ^ 32 }
-    requires known { AreKnown names.now list.now }
-    ensures { IfOk result (ArePlacesOf names.now list.now) }
+    requires known { AreKnown names.now list }
+    ensures { ArePlacesOf names.now list result }
 {
-    let mut places = Vec::with_capacity(alloc, list.len())?;
-    for name in list {
-        places.push(known_place(names, *name))?;
+    for index in 0..list.len() {
+        let place = known_place(names, list.as_slice()[index]);
+        list.set(index, place);
     }
-    Ok(Items::from_vec(places))
+    list
 }
 
-/// The places of the names that each link fires.
+/// The places of the names that each link fires, the last link's first.
 fn places_of_links(
     alloc: Global,
     names: &[u32],
-    links: &[Link],
-) -> Result<Items<Items<u32>>, AllocError>
+    mut links: Items<Link>,
+) -> Result<Vec<Items<u32>>, AllocError>
     requires rising { IsStrictlyIncreasing names.now }
     requires few { length names.now < 2 ^ 32 }
-    requires known { All (λ link. AreKnown names.now link.fires) links.now }
-    ensures { IfOk result (AreEachPlacesOf names.now (map (λ link. link.fires) links.now)) }
+    requires known { All (λ link. AreKnown names.now link.fires) links }
+    ensures { IfOk result (λ placed. AreEachPlacesOf names.now (map (λ link. link.fires) links) (reverse placed.items)) }
 {
-    let mut placed = Items::new(alloc);
-    for link in links {
-        placed.push(places_of(alloc, names, link.fires.as_slice())?)?;
+    let mut placed = Vec::with_capacity(alloc, links.len())?;
+    while let Some(link) = links.pop() {
+        placed.push(places_of(names, link.fires))?;
     }
     Ok(placed)
 }
 
-/// A template as an automaton of a web.
+/// A template as an automaton of a web, which takes over the lists of the template.
 pub fn place_template(
     alloc: Global,
     names: &[u32],
-    template: &Template,
+    template: Template,
 ) -> Result<Automaton, AllocError>
     requires rising { IsStrictlyIncreasing names.now }
     requires few { length names.now < 2 ^ 32 }
-    requires known { AreKnown names.now template.now.names }
-    requires links_known { All (λ link. AreKnown names.now link.fires) template.now.links }
-    ensures { IfOk result (IsPlacedTemplate names.now template.now) }
+    requires known { AreKnown names.now template.names }
+    requires links_known { All (λ link. AreKnown names.now link.fires) template.links }
+    ensures { IfOk result (IsPlacedTemplate names.now template) }
 {
-    let placed = places_of(alloc, names, template.names.as_slice())?;
-    let links = places_of_links(alloc, names, template.links.as_slice())?;
+    let placed = places_of(names, template.names);
+    let mut links = places_of_links(alloc, names, template.links)?;
+    links.reverse();
     Ok(Automaton {
         names: placed,
-        links,
+        links: Items::from_vec(links),
     })
 }

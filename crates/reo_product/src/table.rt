@@ -12,7 +12,7 @@ ghost use Rattle.reo_product.specs.Table.{IsTableOf, Refuses, names_in};
 
 use crate::web::web_of;
 use reo_automata::NodeNames;
-use reo_growth::{TableRefusal, table_of};
+use reo_growth::{Row, TableRefusal, table_of};
 use reo_net::Net;
 use sqlite_items::Items;
 use std::alloc::{AllocError, Global};
@@ -65,33 +65,28 @@ fn refusal(region: u32, why: TableRefusal) -> ProductRefusal
     }
 }
 
-/// The names at places.
-fn named(alloc: Global, names: &[u32], places: &[u32]) -> Result<Items<u32>, AllocError>
-    requires { AreBelow (length names.now) places.now }
-    ensures { IfOk result (λ list. list ≡ map (name_at names.now) places.now) }
+/// The names at places, written over them.
+fn named(names: &[u32], mut places: Vec<u32>) -> Vec<u32>
+    requires { AreBelow (length names.now) places.items }
+    ensures { result.items ≡ map (name_at names.now) places.items }
 {
-    let mut list = Vec::with_capacity(alloc, places.len())?;
-    for place in places {
-        list.push(names[*place as usize])?;
+    for place in places.iter_mut() {
+        *place = names[*place as usize];
     }
-    Ok(Items::from_vec(list))
+    places
 }
 
-/// The firings of rows of places.
-fn firings_of(
-    alloc: Global,
-    names: &[u32],
-    rows: &[Items<u32>],
-) -> Result<Items<Firing>, AllocError>
-    requires { All (AreBelow (length names.now)) rows.now }
-    ensures { IfOk result (λ firings. map names_in firings ≡ map (map (name_at names.now)) rows.now) }
+/// The firings of rows of places, which take over the lists of the rows.
+fn firings_of(alloc: Global, names: &[u32], rows: Vec<Row>) -> Result<Items<Firing>, AllocError>
+    requires { All (λ row. AreBelow (length names.now) row.names.items) rows.items }
+    ensures { IfOk result (λ firings. map names_in firings ≡ map (λ row. map (name_at names.now) row.names.items) rows.items) }
 {
-    let mut firings = Items::new(alloc);
+    let mut firings = Vec::with_capacity(alloc, rows.len())?;
     for row in rows {
-        let names = named(alloc, names, row.as_slice())?;
+        let names = Items::from_vec(named(names, row.names));
         firings.push(Firing { names })?;
     }
-    Ok(firings)
+    Ok(Items::from_vec(firings))
 }
 
 /// The table of the region that has these automata.
@@ -113,7 +108,7 @@ pub fn table_of_automata(
     let made = web_of(alloc, net, node_names, automata)?;
     match table_of(alloc, made.web) {
         Ok(table) => {
-            let firings = firings_of(alloc, made.names.as_slice(), table.firings.as_slice())?;
+            let firings = firings_of(alloc, made.names.as_slice(), table.rows)?;
             Ok(RegionTable {
                 region,
                 growth: table.growth,

@@ -44,7 +44,7 @@ fn templates_of(
 fn names_of(alloc: Global, templates: &[Template]) -> Result<Vec<u32>, AllocError>
     ensures { IfOk result (λ names. AreNamesOf templates.now names.items) }
 {
-    let mut names = Vec::new(alloc);
+    let mut names = Vec::with_capacity(alloc, templates.len().saturating_mul(4))?;
     for template in templates {
         names.extend_from_slice(template.names.as_slice())?;
     }
@@ -56,18 +56,18 @@ fn names_of(alloc: Global, templates: &[Template]) -> Result<Vec<u32>, AllocErro
 fn place_templates(
     alloc: Global,
     names: &[u32],
-    templates: &[Template],
+    templates: Vec<Template>,
 ) -> Result<Items<Automaton>, AllocError>
     requires rising { IsStrictlyIncreasing names.now }
     requires few { length names.now < 2 ^ 32 }
-    requires known { All (IsKnownTemplate names.now) templates.now }
-    ensures { IfOk result (ArePaired (IsPlacedTemplate names.now) templates.now) }
+    requires known { All (IsKnownTemplate names.now) templates.items }
+    ensures { IfOk result (ArePaired (IsPlacedTemplate names.now) templates.items) }
 {
-    let mut automata = Items::new(alloc);
+    let mut automata = Vec::with_capacity(alloc, templates.len())?;
     for template in templates {
         automata.push(place_template(alloc, names, template)?)?;
     }
-    Ok(automata)
+    Ok(Items::from_vec(automata))
 }
 
 /// The FIFO1s of which both ends are among the names.
@@ -133,7 +133,7 @@ pub fn web_of(
 {
     let templates = templates_of(alloc, net, node_names, automata)?;
     let names = names_of(alloc, &templates)?;
-    let automata = place_templates(alloc, &names, &templates)?;
+    let automata = place_templates(alloc, &names, templates)?;
     let cells = cells_of(alloc, net, &names)?;
     let count = names.len() as u32;
     Ok(RegionWeb {

@@ -1,11 +1,17 @@
-use Rattle.std.proofs.Common.{◌+◌, take, sym, subst}
-use Rattle.reo_product.specs.Places.{ArePlacesOf}
-use Rattle.reo_product.proofs.PlaceLemmas.{place_more}
+use Rattle.std.proofs.Common.{◌≡◌, ℕ, ◌<◌, length, get_or, sym, ap, ◌∙◌, subst, arith}
+use Rattle.std.proofs.lemmas.Grind.{common_steps}
+use Rattle.reo_product.specs.RegionWeb.{name_at}
+use Rattle.reo_product.proofs.TurnLemmas.{all_placed, AreTurned, IsPlaceOf}
 use Rattle.reo_product.proofs.places.places_of.Goals as goal
 
-pub loop-name-preserved : goal.loop-name-preserved
-loop-name-preserved c =
-    let list = c.args.list.now in
-    let i = c.loop-name.name-index in
-    subst (ArePlacesOf c.args.names.now (take (i + 1) list)) (sym c.in_ok-push.ensures.items)
-    (place_more c.args.names.now list c.loop-name.places.items i c.known_place.result c.loop-name-test.true c.known_place.ensures.0 c.known_place.ensures.1 c.loop-name.invariant)
+pub known_place-place-requires-clause-known : goal.known_place-place-requires-clause-known
+known_place-place-requires-clause-known c =
+    let i = c.loop-index.index in
+    let within : i < length c.args.list = grind (arith, common_steps, c.loop-index-test.true, c.len-index-end.ensures) in
+    let is : get_or c.as_slice.result.now i 0 ≡ get_or c.args.list i 0 = ap (λ xs. get_or xs i 0) c.as_slice.ensures ∙ c.loop-index.invariant.left i (omega arith) in
+    subst (λ n. (place : ℕ) × (place < length c.args.names.now) × (name_at c.args.names.now place ≡ n)) (sym is) (c.requires.known i 0 within)
+
+pub returns : goal.returns
+returns c =
+    let end : c.loop-index.index ≡ length c.args.list = omega (arith, c.loop-index-test.false, c.loop-index.auto.index-end, c.len-index-end.ensures) in
+    all_placed c.args.names.now c.args.list c.loop-index.list (subst (AreTurned (IsPlaceOf c.args.names.now) c.args.list c.loop-index.list) end c.loop-index.invariant)

@@ -1,6 +1,5 @@
-use Rattle.std.proofs.Common.{take}
-use Rattle.reo_product.specs.Places.{ArePlacesOf}
+use Rattle.reo_product.proofs.TurnLemmas.{AreTurned, IsPlaceOf}
 use Rattle.reo_product.proofs.places.places_of.Given as goal
 
-abbrev pub invariant-loop-name : goal.invariant-loop-name
-invariant-loop-name l = ArePlacesOf l.names (take l.name-index l.list) l.places.items
+abbrev pub invariant-loop-index : goal.invariant-loop-index
+invariant-loop-index l = AreTurned (IsPlaceOf l.names) l.fn.list l.list l.index

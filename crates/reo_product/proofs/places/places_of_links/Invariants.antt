@@ -1,6 +1,9 @@
-use Rattle.std.proofs.Common.{take, map}
-use Rattle.reo_product.specs.Places.{AreEachPlacesOf}
+use Rattle.std.proofs.Common.{length}
+use Rattle.reo_product.proofs.TurnLemmas.{AreTaken}
 use Rattle.reo_product.proofs.places.places_of_links.Given as goal
 
 abbrev pub invariant-loop-link : goal.invariant-loop-link
-invariant-loop-link l = AreEachPlacesOf l.names (map (λ link. link.fires) (take l.link-index l.links)) l.placed
+invariant-loop-link l = AreTaken l.names l.fn.links l.links l.placed.items
+
+abbrev pub decreases-loop-link : goal.decreases-loop-link
+decreases-loop-link l = length l.links

@@ -1,6 +1,5 @@
-use Rattle.std.proofs.Common.{◌≡◌, take, map}
-use Rattle.reo_product.specs.RegionWeb.{name_at}
+use Rattle.reo_product.proofs.TurnLemmas.{AreTurned, IsNameAt}
 use Rattle.reo_product.proofs.table.named.Given as goal
 
 abbrev pub invariant-loop-place : goal.invariant-loop-place
-invariant-loop-place l = l.list.items ≡ map (name_at l.names) (take l.place-index l.places)
+invariant-loop-place l = AreTurned (IsNameAt l.names) l.fn.places.items l.place-items l.place-index

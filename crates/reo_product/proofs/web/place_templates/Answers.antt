@@ -1,27 +1,41 @@
-use Rattle.std.proofs.Common.{All, ◌+◌, ◌++◌, ◌∷◌, [], take, get_or, sym, subst}
-use Rattle.std.proofs.lemmas.List.{take_more}
-use Rattle.reo_automata.specs.declared.template.Link.{Link}
-use Rattle.reo_automata.specs.declared.template.Template.{Template}
-use Rattle.reo_product.specs.Places.{ArePaired, AreKnown, IsPlacedTemplate}
+use Rattle.std.proofs.Common.{◌≡◌, ◌∷◌, ◌++◌, [], length, ap, sym, subst, ◌∙◌, arith}
+use Rattle.std.specs.Vec.Iter.{into_iter_items}
+use Rattle.reo_product.specs.Places.{ArePaired, IsKnownTemplate, IsPlacedTemplate}
 use Rattle.reo_product.proofs.PlaceLemmas.{paired_push}
+use Rattle.reo_product.proofs.TurnLemmas.{all_gone, gone_on, next_holds}
 use Rattle.reo_product.proofs.web.place_templates.Goals as goal
 
 pub place_template-requires-clause-known : goal.place_template-requires-clause-known
 place_template-requires-clause-known c =
-    subst (λ (t : Template). AreKnown c.args.names.now t.names) (sym c.template-item.is) (c.requires.known c.loop-template.template-index c.template-item.result c.loop-template-test.true).known
+    let at = c.loop-template in
+    let P = IsKnownTemplate c.args.names.now in
+    let whole = at.invariant.0 ∙ c.into_iter-template-iterator.ensures.into_iter_gives.0 in
+    (next_holds P c.args.templates.items at.yielded (into_iter_items at.template-iterator) (into_iter_items c.next.new.self) c.in-Some.template c.in-Some.ensures.steps.0 whole c.requires.known).known
 
 pub place_template-requires-clause-links_known : goal.place_template-requires-clause-links_known
 place_template-requires-clause-links_known c =
-    subst (λ (t : Template). All (λ (link : Link). AreKnown c.args.names.now link.fires) t.links) (sym c.template-item.is) (c.requires.known c.loop-template.template-index c.template-item.result c.loop-template-test.true).links_known
+    let at = c.loop-template in
+    let P = IsKnownTemplate c.args.names.now in
+    let whole = at.invariant.0 ∙ c.into_iter-template-iterator.ensures.into_iter_gives.0 in
+    (next_holds P c.args.templates.items at.yielded (into_iter_items at.template-iterator) (into_iter_items c.next.new.self) c.in-Some.template c.in-Some.ensures.steps.0 whole c.requires.known).links_known
 
 pub loop-template-preserved : goal.loop-template-preserved
 loop-template-preserved c =
-    let names = c.args.names.now in
-    let templates = c.args.templates.now in
-    let i = c.loop-template.template-index in
-    let placed = c.in_ok-place_template.field-0 in
-    let d = c.template-item.result in
-    subst (ArePaired (IsPlacedTemplate names) (take (i + 1) templates)) (sym c.in_ok-push.ensures.ok)
-    (subst (λ list. ArePaired (IsPlacedTemplate names) list (c.loop-template.automata ++ placed ∷ [])) (sym (take_more templates i d c.loop-template-test.true))
-    (paired_push (IsPlacedTemplate names) (take i templates) c.loop-template.automata (get_or templates i d) placed c.loop-template.invariant
-    (subst (λ t. IsPlacedTemplate names t placed) c.template-item.is c.in_ok-place_template.ensures)))
+    let at = c.loop-template in
+    let x = c.in-Some.template in
+    let R = IsPlacedTemplate c.args.names.now in
+    let steps : into_iter_items at.template-iterator ≡ x ∷ into_iter_items c.next.new.self = c.in-Some.ensures.steps.0 in (
+      gone_on _ at.yielded (into_iter_items at.template-iterator) (into_iter_items c.next.new.self) x steps at.invariant.0,
+      let was = at.invariant.1 in
+          let gone = c.in-Some.ensures.steps.1 in
+          let short = ap length steps in
+          omega arith,
+      subst (ArePaired R (at.yielded ++ x ∷ [])) (sym c.in_ok-push.ensures.items) (paired_push R at.yielded at.automata.items x c.in_ok-place_template.field-0 at.invariant.2 c.in_ok-place_template.ensures),
+    )
+
+pub returns : goal.returns
+returns c =
+    let at = c.loop-template in
+    let R = IsPlacedTemplate c.args.names.now in
+    let all = all_gone _ at.yielded (into_iter_items at.template-iterator) _ c.in-None.ensures.steps.0 at.invariant.1 at.invariant.0 ∙ c.into_iter-template-iterator.ensures.into_iter_gives.0 in
+    subst (λ templates. ArePaired R templates c.from_vec.result) all (subst (ArePaired R at.yielded) (sym c.from_vec.ensures) at.invariant.2)

@@ -22,7 +22,7 @@ place_templates-requires-clause-known c =
     let names = c.in_ok-names.names.items in
     let are = subst (λ ts. AreNamesOf ts names) c.deref.ensures.value c.in_ok-names.ensures in
     let known = templates_known c.args.net.now c.args.automata.now templates c.in_ok-templates.ensures names are in
-    subst (λ ns. All (IsKnownTemplate ns) c.deref-3.result.now) (sym c.deref-2.ensures.value) (subst (All (IsKnownTemplate names)) (sym c.deref-3.ensures.value) known)
+    subst (λ ns. All (IsKnownTemplate ns) templates) (sym c.deref-2.ensures.value) known
 
 pub cells_of-requires-clause-few : goal.cells_of-requires-clause-few
 cells_of-requires-clause-few c =
@@ -30,7 +30,7 @@ cells_of-requires-clause-few c =
     let names = c.in_ok-names.names.items in
     let are = subst (λ ts. AreNamesOf ts names) c.deref.ensures.value c.in_ok-names.ensures in
     let few = few_names c.args.net.now c.requires.checked c.args.automata.now templates c.in_ok-templates.ensures names are in
-    let at = ap length c.deref-4.ensures.value in
+    let at = ap length c.deref-3.ensures.value in
     omega arith
 
 pub overflow_cast-count : goal.overflow_cast-count
@@ -48,9 +48,8 @@ returns-clause-web c = λ root region.
     let templates = c.in_ok-templates.templates.items in
     let names = c.in_ok-names.names.items in
     let are = subst (λ ts. AreNamesOf ts names) c.deref.ensures.value c.in_ok-names.ensures in
-    let placed = subst (λ ns. ArePaired (IsPlacedTemplate ns) templates c.in_ok-automata.automata) c.deref-2.ensures.value
-    (subst (λ ts. ArePaired (IsPlacedTemplate c.deref-2.result.now) ts c.in_ok-automata.automata) c.deref-3.ensures.value c.in_ok-automata.ensures) in
-    let cells = subst (λ ns. AreCells net ns (length net.channels) c.in_ok-cells.cells) c.deref-4.ensures.value c.in_ok-cells.ensures in
+    let placed = subst (λ ns. ArePaired (IsPlacedTemplate ns) templates c.in_ok-automata.automata) c.deref-2.ensures.value c.in_ok-automata.ensures in
+    let cells = subst (λ ns. AreCells net ns (length net.channels) c.in_ok-cells.cells) c.deref-3.ensures.value c.in_ok-cells.ensures in
     let long : c.len-count.result ≡ length names = grind (arith, common_steps, c.len-count.ensures) in
     subst (λ ns. IsRegionWeb net root ns (record { automata = c.in_ok-automata.automata; cells = c.in_ok-cells.cells; names = c.len-count.result })) (sym c.from_vec.ensures)
     (region_web net root c.args.automata.now templates names c.in_ok-automata.automata c.in_ok-cells.cells c.len-count.result region c.in_ok-templates.ensures are placed cells long)
@@ -64,9 +63,8 @@ returns-clause-few c = λ rising.
     let few = few_names net c.requires.checked c.args.automata.now templates c.in_ok-templates.ensures names are in
     let long : c.len-count.result ≡ length names = grind (arith, common_steps, c.len-count.ensures) in
     let numbers = few_numbers net c.requires.checked c.args.automata.now rising c.requires.below in
-    let placed = paired_length (IsPlacedTemplate c.deref-2.result.now) c.deref-3.result.now c.in_ok-automata.automata c.in_ok-automata.ensures in
+    let placed = paired_length (IsPlacedTemplate c.deref-2.result.now) templates c.in_ok-automata.automata c.in_ok-automata.ensures in
     let made = paired_length (λ x. IsTemplate net (automaton_of net x)) c.args.automata.now templates c.in_ok-templates.ensures in
-    let same = ap length c.deref-3.ensures.value in
     let count : length c.in_ok-automata.automata < 67108864 = omega arith in
     let size : c.len-count.result < 67108864 = omega arith in
     (count, size)
@@ -77,9 +75,8 @@ returns-clause-is_web c =
     let templates = c.in_ok-templates.templates.items in
     let names = c.in_ok-names.names.items in
     let are = subst (λ ts. AreNamesOf ts names) c.deref.ensures.value c.in_ok-names.ensures in
-    let placed = subst (λ ns. ArePaired (IsPlacedTemplate ns) templates c.in_ok-automata.automata) c.deref-2.ensures.value
-    (subst (λ ts. ArePaired (IsPlacedTemplate c.deref-2.result.now) ts c.in_ok-automata.automata) c.deref-3.ensures.value c.in_ok-automata.ensures) in
-    let cells = subst (λ ns. AreCells net ns (length net.channels) c.in_ok-cells.cells) c.deref-4.ensures.value c.in_ok-cells.ensures in
+    let placed = subst (λ ns. ArePaired (IsPlacedTemplate ns) templates c.in_ok-automata.automata) c.deref-2.ensures.value c.in_ok-automata.ensures in
+    let cells = subst (λ ns. AreCells net ns (length net.channels) c.in_ok-cells.cells) c.deref-3.ensures.value c.in_ok-cells.ensures in
     let long : c.len-count.result ≡ length names = grind (arith, common_steps, c.len-count.ensures) in
     web_is_web net c.args.automata.now templates names c.in_ok-automata.automata c.in_ok-cells.cells c.len-count.result c.in_ok-templates.ensures are placed cells long
 
