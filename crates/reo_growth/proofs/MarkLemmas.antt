@@ -1,11 +1,11 @@
 -- The marks of a list that an automaton enters.
-use Rattle.std.proofs.Common.{◌≡◌, ℕ, ◌+◌, ◌<◌, ◌⊎◌, inl, inr, List, [], ◌∷◌, length, take, get_or, Bool, true, false, cond, not, ◌&&◌, ◌||◌, refl, sym, ◌∙◌, ap, arith, zero-add}
+use Rattle.std.proofs.Common.{◌≡◌, ℕ, ◌+◌, ◌<◌, ◌⊎◌, inl, inr, List, [], ◌∷◌, length, take, get_or, All, ⊎_elim, subst, Bool, true, false, cond, not, ◌&&◌, ◌||◌, refl, sym, ◌∙◌, ap, arith, zero-add}
 use Rattle.std.specs.Prelude.{nat_eq}
 use Rattle.std.specs.List.{list_any}
-use Rattle.std.proofs.lemmas.Bool.{cases_Bool, and_parts, and_from, false≢true}
+use Rattle.std.proofs.lemmas.Bool.{cases_Bool, cases_lt, and_parts, and_from, false≢true}
 use Rattle.std.specs.Option.{option_map_or}
 use Rattle.std.proofs.lemmas.Option.{slice_get-get_or}
-use Rattle.std.proofs.lemmas.List.{same_lists, take_more}
+use Rattle.std.proofs.lemmas.List.{get_or_past, same_lists, take_more}
 use Rattle.std.proofs.lemmas.List.Folds.{list_any-append}
 use Rattle.reo_growth.specs.declared.web.Automaton.{Automaton}
 use Rattle.std.proofs.lemmas.List.FromFn.{get_or-map-range_with_len, length-map-range_with_len}
@@ -207,6 +207,13 @@ links_at w x all d below is = ap (λ o. option_map_or (λ automaton. automaton.l
 
 pub below_from : (bound : ℕ) (xs : List ℕ) → ((x : ℕ) → has xs x ≡ true → x < bound) → AreBelow bound xs
 below_from bound xs h k d within = h (get_or xs k d) (among_has xs (get_or xs k d) (among_at xs k d within))
+
+-- also where the table has no such list
+pub below_at : (bound : ℕ) (table : List (List ℕ)) (name : ℕ) → All (AreBelow bound) table → AreBelow bound (get_or table name [])
+below_at bound table name all = ⊎_elim
+    (λ within. all name [] within)
+    (λ past. subst (AreBelow bound) (sym (get_or_past table name [] past)) (λ k d within. absurd (omega (arith, within))))
+    (cases_lt name (length table))
 
 pub own_below : (w : Web) → IsWeb w → (x : ℕ) → AreBelow w.names (names_of w x)
 own_below w is_web x = below_from w.names (names_of w x) (λ name h. is_web.below x name h)

@@ -120,7 +120,6 @@ module _ (w : Web) where
   pub are_partners : IsWeb w → (table : List (List ℕ)) → length table ≡ w.names
       → ((one other : ℕ) → one < w.names → has (holders_at table one) other ≡ list_any (joins one other) w.cells) → ArePartners w table
   are_partners is_web table long have = record {
-    long = long;
     below = λ name d within. below_from w.names (get_or table name d) (λ other h.
         let j = joined_gives w.cells name other (sym (have name other (omega arith)) ∙ ap (λ holders. has holders other) (get_or_default table name [] d within) ∙ h) in
         let ends = all_among (λ cell. (cell.0 < w.names) × (cell.1 < w.names)) w.cells is_web.ends (j.0, j.1) j.2 in

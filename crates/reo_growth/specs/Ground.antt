@@ -14,9 +14,8 @@ use Rattle.reo_growth.specs.Trail.{AreSame}
 abbrev pub joins : ℕ → ℕ → ℕ × ℕ → Bool
 joins one other cell = (nat_eq cell.0 one && nat_eq cell.1 other) || (nat_eq cell.1 one && nat_eq cell.0 other)
 
--- the table has for each name the other ends of the FIFO1s that end with it
+-- the table has for each name the other ends of the FIFO1s that end with it, and may end before a name that has none
 pub record ArePartners (w : Web) (partners : List (List ℕ)) : Type 0 where
-  pub long : length partners ≡ w.names
   pub below : All (AreBelow w.names) partners
   pub have : (one other : ℕ) → one < w.names → has (holders_at partners one) other ≡ list_any (joins one other) w.cells
 

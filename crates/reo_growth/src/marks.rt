@@ -208,14 +208,23 @@ fn are_free(marks: &[Mark], others: &[u32], link: &[u32]) -> bool
     true
 }
 
+/// The other ends of the FIFO1s that end with a name; none where the table ends before it.
+fn partners_at(partners: &[Items<u32>], name: u32) -> &[u32]
+    ensures { result.now ≡ slice_index_or partners.now name [] }
+{
+    match partners.get(name as usize) {
+        Some(others) => others.as_slice(),
+        None => &[],
+    }
+}
+
 /// Whether no FIFO1 has one end in the link, and the other there or among the names that fire.
 pub fn fits(marks: &[Mark], partners: &[Items<u32>], link: &[u32]) -> bool
     requires below { All (AreBelow (length marks.now)) partners.now }
-    requires named { AreBelow (length partners.now) link.now }
     ensures { result ≡ list_all (λ name. list_all (is_free marks.now link.now) (slice_index_or partners.now name [])) link.now }
 {
     for name in link {
-        if !are_free(marks, partners[*name as usize].as_slice(), link) {
+        if !are_free(marks, partners_at(partners, *name), link) {
             return false;
         }
     }

@@ -39,7 +39,7 @@ impl Members {
 fn empty_lists(alloc: Global, count: u32) -> Result<Vec<Items<u32>>, AllocError>
     ensures { IfOk result (λ lists. AreMembers [] count lists.items) }
 {
-    let mut lists = Vec::new(alloc);
+    let mut lists = Vec::with_capacity(alloc, count as usize)?;
     for _ in 0..count {
         lists.push(Items::new(alloc))?;
     }

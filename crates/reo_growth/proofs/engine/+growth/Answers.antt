@@ -12,7 +12,7 @@ use Rattle.reo_growth.specs.Marks.{AreBelow, NoneOpenBefore, is_open_mark}
 use Rattle.reo_growth.specs.Found.{Went, WentOver, ranked, fired_places, rows_of}
 use Rattle.reo_growth.specs.Sound.{widened}
 use Rattle.reo_growth.proofs.ListLemmas.{among_at}
-use Rattle.reo_growth.proofs.MarkLemmas.{names_at, links_at, own_below, link_below}
+use Rattle.reo_growth.proofs.MarkLemmas.{names_at, links_at, own_below}
 use Rattle.reo_growth.proofs.OpenLemmas.{first_before}
 use Rattle.reo_growth.proofs.TrailLemmas.{none_changed, more_changed}
 use Rattle.reo_growth.proofs.WentLemmas.{room_for_one, stopped, from_more, from_front}
@@ -67,12 +67,6 @@ grow_child-returns-then-not-agrees-clause-went t c = λ v ready are.
     let names = names_at w c.args.x c.as_slice.result.now c.index-as_slice-x.result c.requires.within c.as_slice.ensures ∙ sym c.as_slice-names.ensures in
     let agree : agrees w v c.args.x c.args.link.now ≡ false = agrees_said w c.requires.ground.is_web c.args.root v c.args.x c.args.link.now c.as_slice-names.result.now _ c.agrees.result ready (c.as_slice-2.ensures.value ∙ are.names) names c.agrees.ensures ∙ c.if-not-agrees.true in
     no_child w c.args.root c.args.left v c.args.x c.args.link.now c.args.found.now (and_left (agrees w v c.args.x c.args.link.now) (fits w (with_link v c.args.x c.args.link.now)) agree)
-
-pub grow_child-fits-requires-clause-named : goal.grow_child-fits-requires-clause-named
-grow_child-fits-requires-clause-named t c =
-    let w = c.args.ground.now.web in
-    let long : length c.as_slice-4.result.now ≡ w.names = ap length c.as_slice-4.ensures ∙ c.requires.ground.joined.long in
-    subst (λ n. AreBelow n c.args.link.now) (sym long) (link_below w c.requires.ground.is_web c.args.x c.args.link.now c.requires.its)
 
 pub grow_child-returns-then-not-fits-clause-went : goal.grow_child-returns-then-not-fits-clause-went
 grow_child-returns-then-not-fits-clause-went t c = λ v ready are.

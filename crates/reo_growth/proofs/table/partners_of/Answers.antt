@@ -1,4 +1,4 @@
-use Rattle.std.proofs.Common.{◌≤◌, length, get_or, subst, sym, ap, ◌∙◌, arith}
+use Rattle.std.proofs.Common.{◌≡◌, ◌≤◌, [], length, get_or, subst, sym, ap, ◌∙◌, arith}
 use Rattle.std.specs.List.{list_any}
 use Rattle.std.proofs.lemmas.List.{take_all}
 use Rattle.reo_growth.specs.Ground.{ArePartners, joins}
@@ -15,6 +15,13 @@ loop-a-preserved c =
       have = partners_more w w.cells i _ _ c.loop-a.table.items c.add_holder.new.table.items c.add_holder-in-loop-a.new.table.items (omega (arith, ap length items, c.loop-a-test.true))
           (ap (λ cells. get_or cells i (0, 0)) (sym items)) c.loop-a.invariant.long c.in_ok-add_holder.ensures c.in_ok-add_holder-2.ensures c.loop-a.invariant.have;
     }
+
+pub returns-then-is_empty : goal.returns-then-is_empty
+returns-then-is_empty c =
+    let w = c.args.web.now in
+    let none : w.cells ≡ [] = c.is_empty.ensures.0 c.if-is_empty.true in
+    subst (ArePartners w) (sym c.new.ensures)
+    (record { below = λ name d within. absurd (omega (arith, within)); have = λ one other below. sym (ap (list_any (joins one other)) none) })
 
 pub returns : goal.returns
 returns c =
