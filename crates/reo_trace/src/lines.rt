@@ -277,7 +277,7 @@ fn push_pairs(
 }
 
 /// How many pairs are written into one room.
-const MOST: usize = 64;
+const MOST: usize = 128;
 
 /// Appends pairs and the end of their line behind the bytes that are used. Answers how many are used then.
 fn push_rest(

@@ -5,14 +5,11 @@ ghost use Rattle.reo_trace.specs.Parts.{part_text};
 
 use std::alloc::AllocError;
 
-/// How many bytes a buffer grows by beyond those that are asked for.
-const SPARE: usize = 512;
-
 /// Makes a room of so many bytes behind those that are used.
 #[inline(always)]
 pub(crate) fn make_room(buffer: &mut Vec<u8>, used: usize, count: usize) -> Result<(), AllocError>
     requires used { used ≤ vec_len buffer.old }
-    requires count { count ≤ 8192 }
+    requires count { count ≤ 16384 }
     ensures room { OnOk result (used + count ≤ vec_len buffer.new) }
     ensures kept { take used buffer.new.items ≡ take used buffer.old.items }
     ensures grows { vec_len buffer.old ≤ vec_len buffer.new }
@@ -23,16 +20,14 @@ pub(crate) fn make_room(buffer: &mut Vec<u8>, used: usize, count: usize) -> Resu
     Ok(())
 }
 
-/// Makes a buffer at least so long.
+/// Makes a buffer at least so long, a few bytes at a time: what is far longer than its lines was mostly made for nothing.
 fn widen(buffer: &mut Vec<u8>, len: usize) -> Result<(), AllocError>
-    requires { len ≤ vec_len buffer.old + 8192 }
     ensures room { OnOk result (len ≤ vec_len buffer.new) }
     ensures kept { (used : ℕ) → used ≤ vec_len buffer.old → take used buffer.new.items ≡ take used buffer.old.items }
     ensures grows { vec_len buffer.old ≤ vec_len buffer.new }
 {
-    let wanted = len + SPARE;
-    if buffer.len() < wanted {
-        buffer.resize(wanted, 0)?;
+    while buffer.len() < len {
+        buffer.extend_from_slice(&[0; 512])?;
     }
     Ok(())
 }
