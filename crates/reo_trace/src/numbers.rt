@@ -8,14 +8,16 @@ use itoa::write_digits;
 use std::alloc::AllocError;
 use std::marker::Model;
 
-/// Puts a byte before the place, and answers where it stands.
-fn put_before(made: &mut [u8; 64], place: usize, byte: u8) -> usize
-    requires { (0 < place) × (place ≤ 32) }
-    ensures at { result + 1 ≡ place }
-    ensures made { drop result made.new ≡ byte ∷ drop place made.old }
+/// Puts text before the place, and answers where it begins.
+#[inline(always)]
+pub(crate) fn put_before(made: &mut [u8; 64], place: usize, text: &[u8]) -> usize
+    requires { (length text.now ≤ place) × (place ≤ 32) }
+    ensures start { result + length text.now ≡ place }
+    ensures made { drop result made.new ≡ text.now ++ drop place made.old }
 {
-    made[place - 1] = byte;
-    place - 1
+    let start = place - text.len();
+    made[start..place].copy_from_slice(text);
+    start
 }
 
 /// Appends where a call was answered, with the end of its line.
@@ -25,10 +27,7 @@ pub(crate) fn push_place(buffer: &mut Vec<u8>, number: u64) -> Result<(), AllocE
 {
     let mut made = [b'\n'; 64];
     let digits = write_digits(number, &mut made, 31);
-    let last = put_before(&mut made, digits, b' ');
-    let third = put_before(&mut made, last, b't');
-    let second = put_before(&mut made, third, b'a');
-    let first = put_before(&mut made, second, b' ');
+    let first = put_before(&mut made, digits, b" at ");
     append_short(buffer, &made, first, 32 - first)
 }
 
@@ -56,11 +55,7 @@ impl StepFront {
     {
         let mut bytes = [0; 64];
         let digits = write_digits(number, &mut bytes, 32);
-        let last = put_before(&mut bytes, digits, b' ');
-        let fourth = put_before(&mut bytes, last, b'p');
-        let third = put_before(&mut bytes, fourth, b'e');
-        let second = put_before(&mut bytes, third, b't');
-        let start = put_before(&mut bytes, second, b's');
+        let start = put_before(&mut bytes, digits, b"step ");
         StepFront {
             number,
             bytes,
