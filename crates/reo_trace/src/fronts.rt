@@ -1,12 +1,10 @@
 //! What stands before each value in a step's line, made once for each name.
-ghost use Rattle.std.specs.Prelude.{◌≤◌, IfOk, IfSome, OnOk, vec_len};
+ghost use Rattle.std.specs.Prelude.{◌≤◌, IfOk, OnOk, vec_len};
 ghost use Rattle.reo_trace.specs.Buffer.{HasTaken, Takes};
 ghost use Rattle.reo_trace.specs.Fronts.{AreFronts, front_text};
-ghost use Rattle.reo_trace.specs.Parts.{IsShort};
 
 use crate::lines::{push_bytes, push_name};
-use crate::parts::{Parts, push_part, short_part};
-use crate::room::Part;
+use crate::parts::{Parts, push_part};
 use reo_net::Net;
 use reo_value::Lexicon;
 use std::alloc::{AllocError, Global};
@@ -50,21 +48,4 @@ pub(crate) fn push_front_of(
         return push_front(buffer, net, nodes, name);
     }
     push_part(buffer, fronts, name as usize)
-}
-
-/// The front of a name, where it is made and short.
-#[inline(always)]
-pub(crate) fn short_front<'a>(
-    net: &Net,
-    nodes: &Lexicon,
-    fronts: &'a Parts,
-    name: u32,
-) -> Option<Part<'a>>
-    requires { AreFronts net.now nodes.now fronts.now }
-    ensures { IfSome result (IsShort (front_text net.now nodes.now name)) }
-{
-    if name >= net.names() {
-        return None;
-    }
-    short_part(fronts, name as usize)
 }

@@ -35,12 +35,15 @@ fn place_of(parts: &Parts, number: usize) -> Place
     }
 }
 
-/// The text of a number, where it is short.
+/// The text of a number, where it is made and short.
 #[inline(always)]
-pub(crate) fn short_part(parts: &Parts, number: usize) -> Option<Part<'_>>
-    requires { number + 1 < length parts.now.starts.items }
+pub(crate) fn short_part(parts: &Parts, number: u32) -> Option<Part<'_>>
     ensures { (part : ℕ → List ℕ) (count : ℕ) → AreParts part count parts.now → IfSome result (IsShort (part number)) }
 {
+    let number = number as usize;
+    if number + 1 >= parts.starts.len() {
+        return None;
+    }
     let place = place_of(parts, number);
     if place.count > 32 {
         return None;

@@ -1,5 +1,5 @@
 //! Values that are texts, as lines have them: each made once.
-ghost use Rattle.std.specs.Prelude.{◌≤◌, IfOk, IfSome, OnOk, vec_len};
+ghost use Rattle.std.specs.Prelude.{ℕ, ◌≤◌, List, IfOk, IfSome, OnOk, vec_len};
 ghost use Rattle.reo_trace.specs.Buffer.{HasTaken};
 ghost use Rattle.reo_trace.specs.Fronts.{AreQuotes, quoted_text};
 ghost use Rattle.reo_trace.specs.Parts.{IsShort};
@@ -47,24 +47,17 @@ pub(crate) fn push_quote_of(
 /// A value's text, where it is short.
 #[inline(always)]
 pub(crate) fn short_datum<'a>(
-    texts: &Lexicon,
     quotes: &'a Parts,
     shown: &'a mut Shown,
     value: Value,
 ) -> Option<Part<'a>>
-    requires { AreQuotes texts.now quotes.now }
-    ensures { IfSome result (IsShort (value_text texts.now value)) }
+    ensures { (texts : List (List ℕ)) → AreQuotes texts quotes.now → IfSome result (IsShort (value_text texts value)) }
 {
     match value {
         Value::Int(number) => {
             shown.turn_to(number.get());
             Some(shown.part())
         }
-        Value::Sym(text) => {
-            if text >= texts.len() {
-                return None;
-            }
-            short_part(quotes, text as usize)
-        }
+        Value::Sym(text) => short_part(quotes, text),
     }
 }

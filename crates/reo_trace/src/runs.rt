@@ -4,8 +4,7 @@ ghost use Rattle.reo_trace.specs.Buffer.{HasWritten};
 ghost use Rattle.reo_trace.specs.Fronts.{AreFronts, AreQuotes};
 ghost use Rattle.reo_trace.specs.ReportText.{pair_text};
 
-use crate::fronts::short_front;
-use crate::parts::Parts;
+use crate::parts::{Parts, short_part};
 use crate::quotes::short_datum;
 use crate::room::put_short;
 use crate::shown::Shown;
@@ -42,10 +41,10 @@ pub(crate) fn write_run(
 {
     let mut run = Run { pairs: 0, used };
     for pair in pairs {
-        let Some(front) = short_front(net, nodes, fronts, pair.0) else {
+        let Some(front) = short_part(fronts, pair.0) else {
             return run;
         };
-        let Some(datum) = short_datum(texts, quotes, shown, pair.1) else {
+        let Some(datum) = short_datum(quotes, shown, pair.1) else {
             return run;
         };
         let named = put_short(room, run.used, front);
