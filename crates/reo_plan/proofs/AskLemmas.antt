@@ -18,7 +18,8 @@ use Rattle.reo_plan.specs.declared.asks.Asks.{Asks}
 use Rattle.reo_plan.specs.declared.asks.Shared.{Shared}
 use Rattle.reo_plan.specs.declared.marks.Marks.{Marks}
 use Rattle.reo_plan.specs.inside.Slots.{slot_at, slot_value, AreOrdered, Extends, HasFlow}
-use Rattle.reo_plan.specs.inside.Marks.{AreMarks, low_half, shares}
+use Rattle.reo_plan.specs.inside.Marks.{AreMarks, Misses, low_half, shares}
+use Rattle.reo_plan.specs.inside.Needs.{some_offer}
 use Rattle.reo_plan.specs.inside.Plans.{fits}
 use Rattle.reo_plan.specs.inside.Asks.{so_in, number_so, IsSameFact, IsNumbered, HasAsks, IsAsks, AreAsks, IsShared, AreShared, low_mask}
 use Rattle.reo_plan.proofs.FactLemmas.{all-append}
@@ -87,6 +88,7 @@ kept_asks c old new facts many e f (row ∷ rows) (asks ∷ all) are = (
   record {
     has = λ more others es ef. are.0.has more others (extends_on old new more e es) (extends_on facts many others f ef);
     mask = are.0.mask;
+    needs = are.0.needs;
   },
   kept_asks c old new facts many e f rows all are.1,
 )
@@ -134,6 +136,14 @@ module _ (c : RawCircuit) (texts : List (List ℕ)) (reading : Reading) (slots :
   own_fails fails =
       let numbers = list_all (number_so c texts reading slots facts) asks.numbers in
       with_false numbers ∙ ap (λ b. numbers && b) fails ∙ asked_fits
+
+  -- a row that needs an offer which is missing does not fit
+  pub unoffered_fails : (missing : ℕ) → Misses (some_offer reading.ports) missing → (bit_and missing asks.needs ≡ 0 → ⊥) → false ≡ fits c texts reading row
+  unoffered_fails missing misses shares = go (fits c texts reading row) refl
+    where
+      go : (b : Bool) → fits c texts reading row ≡ b → false ≡ fits c texts reading row
+      go true e = absurd (shares (is.needs texts reading missing misses e))
+      go false e = sym e
 
   -- a row that has a failed fact does not fit
   pub masked_fails : (marks : Marks) → AreMarks (number_so c texts reading slots facts) marks → (bit_and marks.failed asks.mask ≡ 0 → ⊥) → false ≡ fits c texts reading row

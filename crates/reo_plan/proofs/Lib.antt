@@ -13,6 +13,7 @@ pub mod FitLaw
 pub mod FirstLaw
 pub mod BackLaw
 pub mod MarkLemmas
+pub mod NeedLemmas
 pub mod AskLemmas
 pub mod IncomingLemmas
 pub mod CellLemmas

@@ -27,7 +27,7 @@ passes_by p word n misses has = go (p n) refl
     go true e = refl
     go false e = absurd (has (misses n (ap not e)))
 
-both : (a b : Bool) → (a && (b && true)) ≡ true → (a ≡ true) × (b ≡ true)
+pub both : (a b : Bool) → (a && (b && true)) ≡ true → (a ≡ true) × (b ≡ true)
 both true true e = (refl, refl)
 both true false e = absurd (false≢true e)
 both false b e = absurd (false≢true e)

@@ -8,5 +8,6 @@ pub mod Plans
 pub mod Sides
 pub mod Back
 pub mod Marks
+pub mod Needs
 pub mod Asks
 pub mod Known

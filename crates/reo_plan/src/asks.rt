@@ -8,16 +8,19 @@ ghost use Rattle.reo_plan.specs.inside.Asks.{is_direct, is_presence, IsSameFact,
 
 use crate::facts::is_same;
 use crate::marks::{low_half, mask_of};
+use crate::needs::needs_of;
 use crate::row::Row;
 use crate::slots::{Givers, giver_at, slot_of};
 use reo_flow::{Fact, Giver};
 use sqlite_items::Items;
 use std::alloc::{AllocError, Global};
 
-/// What one firing asks: facts that it shares, by number and as a mask of the first 64, and others in slots of its own.
+/// What one firing asks: facts that it shares, by number and as a mask of the first 64, and others in slots of its own;
+/// and the offers that it needs, as bits.
 #[derive(Drop)]
 pub(crate) struct Asks {
     pub(crate) mask: u64,
+    pub(crate) needs: u64,
     pub(crate) numbers: Items<u32>,
     pub(crate) rest: Items<Fact>,
 }
@@ -224,6 +227,7 @@ fn asks_of(
     let mask = mask_of(numbers.as_slice());
     Ok(Asks {
         mask,
+        needs: needs_of(asked),
         numbers,
         rest,
     })

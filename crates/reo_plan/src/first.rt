@@ -1,13 +1,15 @@
 //! The first of a region's firings that a reading allows.
 ghost use Rattle.std.specs.Prelude.{◌≡◌, ◌≤◌, ◌<◌, [], ◌∷◌, length, position, true};
 ghost use Rattle.std.specs.List.{list_all};
-ghost use Rattle.reo_plan.specs.inside.Marks.{AreMarks, AllShare, shares};
+ghost use Rattle.reo_plan.specs.inside.Marks.{AreMarks, Misses, AllShare, shares};
+ghost use Rattle.reo_plan.specs.inside.Needs.{some_offer};
 ghost use Rattle.reo_plan.specs.inside.Asks.{so_in, number_so, IsAsks, IsShared};
 ghost use Rattle.reo_plan.specs.inside.Plans.{fits};
 
 use crate::asks::{Asks, Shared};
 use crate::evaluate::is_so;
 use crate::marks::{Marks, is_known, low_half, mark, no_marks};
+use crate::needs::unoffered;
 use crate::row::Row;
 use crate::sources::Words;
 use crate::view::View;
@@ -87,21 +89,27 @@ fn all_so<W: Words>(net: &Net, texts: &Lexicon, words: &W, slots: &[Giver], fact
         .all(|fact| is_so(net, texts, words, slots, fact))
 }
 
-/// Whether all that a row asks is so. What it shares with no other row is asked first.
+/// Whether all that a row asks is so. Where an offer that it needs is among those that are missing, it is not; and what it
+/// shares with no other row is asked before the rest.
 fn row_fits(
     net: &Net,
     texts: &Lexicon,
     reading: &View<'_>,
     shared: &Shared,
+    missing: u64,
     marks: &mut Marks,
     row: &Row,
     asks: &Asks,
 ) -> bool
     requires asks { IsAsks net.now shared.now.slots shared.now.facts row.now asks.now }
+    requires missing { Misses (some_offer reading.now.ports) missing }
     requires marks { AreMarks (number_so net.now texts.now reading.now shared.now.slots shared.now.facts) marks.old }
     ensures fits { result ≡ fits net.now texts.now reading.now row.now }
     ensures marks { AreMarks (number_so net.now texts.now reading.now shared.now.slots shared.now.facts) marks.new }
 {
+    if missing & asks.needs != 0 {
+        return false;
+    }
     if marks.failed & asks.mask != 0 {
         return false;
     }
@@ -173,8 +181,50 @@ fn only_row(net: &Net, texts: &Lexicon, reading: &Reading, row: &Row) -> Option<
     }
 }
 
-/// The first row of which all facts are so. A row with a fact that has failed is passed over by one look at its mask,
-/// and many such rows by one look at all of theirs.
+/// The bits of which no port has an offer, where there are few rows. Many are passed over by what has failed.
+fn missing_for(ports: &[(u32, u64, u64)], rows: usize) -> u64
+    ensures { Misses (some_offer ports.now) result }
+{
+    if rows < STRIDE { unoffered(ports) } else { 0 }
+}
+
+/// The first row of several. A row with a fact that has failed is passed over by one look at its mask, and many such rows by
+/// one look at all of theirs.
+#[inline(never)]
+fn first_of_many(
+    net: &Net,
+    texts: &Lexicon,
+    reading: &Reading,
+    shared: &Shared,
+    rows: &[Row],
+) -> Option<usize>
+    requires { IsShared net.now rows.now shared.now }
+    ensures { result ≡ position (fits net.now texts.now reading.now) rows.now }
+{
+    let view = View::new(reading);
+    let missing = missing_for(reading.ports.as_slice(), rows.len());
+    let mut marks = no_marks();
+    let asks = shared.asks.as_slice();
+    let masks = shared.masks.as_slice();
+    let mut from = 0;
+    while from < rows.len() {
+        let to = run_end(from, rows.len());
+        if !run_fails(masks, from, to, low_half(marks.failed)) {
+            for row in from..to {
+                if row_fits(
+                    net, texts, &view, shared, missing, &mut marks, &rows[row], &asks[row],
+                ) {
+                    return Some(row);
+                }
+            }
+        }
+        from = to;
+    }
+    None
+}
+
+/// The first row of which all facts are so.
+#[inline(always)]
 pub(crate) fn first_row(
     net: &Net,
     texts: &Lexicon,
@@ -186,25 +236,8 @@ pub(crate) fn first_row(
     ensures { result ≡ position (fits net.now texts.now reading.now) rows.now }
 {
     if rows.len() == 1 {
-        return only_row(net, texts, reading, &rows[0]);
+        only_row(net, texts, reading, &rows[0])
+    } else {
+        first_of_many(net, texts, reading, shared, rows)
     }
-    let view = View::new(reading);
-    let mut marks = no_marks();
-    let asks = shared.asks.as_slice();
-    let masks = shared.masks.as_slice();
-    let mut from = 0;
-    while from < rows.len() {
-        let to = run_end(from, rows.len());
-        if !run_fails(masks, from, to, low_half(marks.failed)) {
-            for row in from..to {
-                if row_fits(
-                    net, texts, &view, shared, &mut marks, &rows[row], &asks[row],
-                ) {
-                    return Some(row);
-                }
-            }
-        }
-        from = to;
-    }
-    None
 }

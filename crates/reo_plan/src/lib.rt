@@ -11,6 +11,7 @@ mod givers;
 mod known;
 pub mod laws;
 mod marks;
+mod needs;
 mod places;
 mod plans;
 mod row;

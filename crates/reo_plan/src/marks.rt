@@ -10,7 +10,7 @@ pub(crate) struct Marks {
     pub(crate) failed: u64,
 }
 
-fn bit(number: u32) -> u64
+pub(crate) fn bit(number: u32) -> u64
     requires { number < 64 }
     ensures { result ≡ 2 ^ number }
 {
@@ -18,7 +18,7 @@ fn bit(number: u32) -> u64
 }
 
 /// The word with the bit of this number, where it has one.
-fn with_bit(word: u64, number: u32) -> u64
+pub(crate) fn with_bit(word: u64, number: u32) -> u64
     ensures misses { (p : ℕ → Bool) (other : ℕ) → Misses p other → p number ≡ true → bit_and other word ≡ 0 → bit_and other result ≡ 0 }
     ensures adds { (p : ℕ → Bool) → Misses p word → not (p number) ≡ true → Misses p result }
 {

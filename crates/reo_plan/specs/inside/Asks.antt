@@ -1,6 +1,7 @@
 -- What firings ask, by the numbers of the facts that they share: each fact has its datum in a slot that they share too.
 use Rattle.std.specs.Prelude.{◌≡◌, ℕ, map, List, [], ◌∷◌, slice_get, Bool, true, false, ◌&&◌}
 use Rattle.std.specs.List.{list_all}
+use Rattle.std.specs.Int.RustNames.{bit_and}
 use Rattle.std.specs.Option.{option_map_or}
 use Rattle.reo_net.specs.declared.circuit.RawCircuit.{RawCircuit}
 use Rattle.reo_fabric.specs.declared.reading.Reading.{Reading}
@@ -13,7 +14,8 @@ use Rattle.reo_plan.specs.declared.row.Row.{Row}
 use Rattle.reo_plan.specs.declared.asks.Asks.{Asks}
 use Rattle.reo_plan.specs.declared.asks.Shared.{Shared}
 use Rattle.reo_plan.specs.inside.Slots.{slot_at, slot_value, Extends}
-use Rattle.reo_plan.specs.inside.Marks.{IsMask, low_half}
+use Rattle.reo_plan.specs.inside.Marks.{Misses, IsMask, low_half}
+use Rattle.reo_plan.specs.inside.Needs.{some_offer}
 
 -- no function gives this
 abbrev pub is_direct : Giver → Bool
@@ -57,10 +59,16 @@ abbrev pub HasAsks : RawCircuit → List Giver → List Fact → List Giver → 
 HasAsks c slots facts own done numbers rest =
     (more : List Giver) (others : List Fact) → Extends slots more → Extends facts others → (texts : List (List ℕ)) (reading : Reading) → asked c texts reading more others own numbers rest ≡ list_all (so_in c texts reading own) done
 
+-- where all of these facts are so, the bits of what they need share none with a word that misses what is offered
+abbrev pub IsNeeds : RawCircuit → List Giver → List Fact → ℕ → Type 0
+IsNeeds c slots facts needs =
+    (texts : List (List ℕ)) (reading : Reading) (word : ℕ) → Misses (some_offer reading.ports) word → list_all (so_in c texts reading slots) facts ≡ true → bit_and word needs ≡ 0
+
 -- these are the asks of the row
 pub record IsAsks (c : RawCircuit) (slots : List Giver) (facts : List Fact) (row : Row) (asks : Asks) : Type 0 where
   pub has : HasAsks c slots facts row.slots row.facts asks.numbers asks.rest
   pub mask : IsMask asks.numbers asks.mask
+  pub needs : IsNeeds c row.slots row.facts asks.needs
 
 abbrev pub AreAsks : RawCircuit → List Giver → List Fact → List Row → List Asks → Type 0
 AreAsks c slots facts [] [] = Unit {0}

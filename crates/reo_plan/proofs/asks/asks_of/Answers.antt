@@ -1,6 +1,8 @@
-use Rattle.std.proofs.Common.{take, sym, subst, arith}
+use Rattle.std.proofs.Common.{take, sym, ◌∙◌, subst, arith}
+use Rattle.std.proofs.lemmas.List.{take_all}
 use Rattle.std.proofs.lemmas.Option.{slice_get-get_or}
-use Rattle.reo_plan.specs.inside.Asks.{HasAsks}
+use Rattle.reo_plan.specs.inside.Asks.{HasAsks, IsNeeds}
+use Rattle.reo_plan.specs.inside.Marks.{IsMask}
 use Rattle.reo_plan.proofs.SlotLemmas.{more_on, extends_on}
 use Rattle.reo_plan.proofs.PlaceSlotLemmas.{take_more}
 use Rattle.reo_plan.proofs.asks.asks_of.Goals as goal
@@ -17,3 +19,16 @@ loop-fact-preserved c =
       λ c'. subst (λ l. HasAsks c' slots facts c.as_slice-own.result.now l c.add_ask.new.numbers c.add_ask.new.rest) (sym (take_more asked n _ (slice_get-get_or asked n _ (omega arith))))
           (there.asks c' (take n asked) (c.loop-fact.invariant.2 c')),
     )
+
+pub returns-clause-asks : goal.returns-clause-asks
+returns-clause-asks c = λ c'.
+    let row = c.args.row.now in
+    let asked = c.as_slice-asked.result.now in
+    let n = c.loop-fact.fact-index in
+    let own : HasAsks c' c.loop-fact.slots c.loop-fact.facts row.slots (take n asked) c.loop-fact.numbers c.loop-fact.rest =
+    subst (λ own. HasAsks c' c.loop-fact.slots c.loop-fact.facts own (take n asked) c.loop-fact.numbers c.loop-fact.rest) c.as_slice-own.ensures (c.loop-fact.invariant.2 c') in
+    record {
+      has = subst (λ l. HasAsks c' c.loop-fact.slots c.loop-fact.facts row.slots l c.loop-fact.numbers c.loop-fact.rest) (take_all n asked (omega arith) ∙ c.as_slice-asked.ensures) own;
+      mask = subst (λ l. IsMask l c.mask_of-mask.result) c.as_slice.ensures c.mask_of-mask.ensures;
+      needs = subst (λ l. IsNeeds c' row.slots l c.needs_of.result) c.as_slice-asked.ensures (c.needs_of.ensures c' row.slots);
+    }

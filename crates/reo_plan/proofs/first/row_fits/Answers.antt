@@ -3,8 +3,13 @@ use Rattle.std.specs.List.{list_all}
 use Rattle.reo_flow.specs.declared.fact.Fact.{Fact}
 use Rattle.reo_flow.specs.declared.giver.Giver.{Giver}
 use Rattle.reo_plan.specs.inside.Asks.{so_in}
-use Rattle.reo_plan.proofs.AskLemmas.{masked_fails, own_fails}
+use Rattle.reo_plan.proofs.AskLemmas.{unoffered_fails, masked_fails, own_fails}
 use Rattle.reo_plan.proofs.first.row_fits.Goals as goal
+
+pub returns-then-missing-asks-ne0-clause-fits : goal.returns-then-missing-asks-ne0-clause-fits
+returns-then-missing-asks-ne0-clause-fits c =
+    unoffered_fails c.args.net.now c.args.texts.now c.args.reading.now c.args.shared.now.slots c.args.shared.now.facts c.args.row.now c.args.asks.now c.requires.asks c.args.missing c.requires.missing
+    c.if-missing-asks-ne0.true
 
 pub returns-then-marks-asks-ne0-clause-fits : goal.returns-then-marks-asks-ne0-clause-fits
 returns-then-marks-asks-ne0-clause-fits c =

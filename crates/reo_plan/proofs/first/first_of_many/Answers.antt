@@ -5,7 +5,7 @@ use Rattle.reo_plan.specs.inside.Marks.{AllShare, low_half}
 use Rattle.reo_plan.specs.inside.Plans.{fits}
 use Rattle.reo_plan.specs.inside.Asks.{number_so, IsAsks}
 use Rattle.reo_plan.proofs.AskLemmas.{asks_at, masks_long, low_fails, position_some, position_none}
-use Rattle.reo_plan.proofs.first.first_row.Goals as goal
+use Rattle.reo_plan.proofs.first.first_of_many.Goals as goal
 
 pub loop-from-init : goal.loop-from-init
 loop-from-init c = record {

@@ -3,7 +3,7 @@ use Rattle.reo_plan.specs.declared.row.Row.{Row}
 use Rattle.reo_plan.specs.inside.Marks.{AreMarks}
 use Rattle.reo_plan.specs.inside.Asks.{number_so}
 use Rattle.reo_plan.specs.inside.Plans.{fits}
-use Rattle.reo_plan.proofs.first.first_row.Given as goal
+use Rattle.reo_plan.proofs.first.first_of_many.Given as goal
 
 abbrev pub invariant-loop-from : goal.invariant-loop-from
 invariant-loop-from l = record {

@@ -1,0 +1,45 @@
+-- Offers that firings need, and those that are missing.
+use Rattle.std.proofs.Common.{◌≡◌, ℕ, ◌%◌, ◌^◌, List, [], ◌∷◌, ◌++◌, map, Some, Bool, true, false, cond, nat_eq, ◌&&◌, ◌||◌, refl, sym, ap, ◌∙◌}
+use Rattle.std.specs.List.{list_all}
+use Rattle.std.specs.Option.{option_map_or}
+use Rattle.std.specs.Int.RustNames.{bit_and}
+use Rattle.std.proofs.Math.Bool.{or-true}
+use Rattle.std.proofs.lemmas.Bool.{false≢true, eqb-true, eq-eqb}
+use Rattle.std.specs.Int.Bits.{and_zero_r}
+use Rattle.std.proofs.lemmas.Nat.{and_assoc, and_comm}
+use Rattle.reo_net.specs.declared.circuit.RawCircuit.{RawCircuit}
+use Rattle.reo_fabric.specs.Entry.{at_place}
+use Rattle.reo_fabric.specs.declared.reading.Reading.{Reading}
+use Rattle.reo_flow.specs.declared.fact.Fact.{Fact}
+use Rattle.reo_flow.specs.declared.giver.Giver.{Giver}
+use Rattle.reo_plan.specs.inside.Asks.{so_in, IsNeeds}
+use Rattle.reo_plan.specs.inside.Marks.{Misses}
+use Rattle.reo_plan.specs.inside.Needs.{offers_at, some_offer}
+use Rattle.reo_plan.proofs.MarkLemmas.{both}
+use Rattle.reo_plan.proofs.FactLemmas.{all-append}
+
+-- where a port has an offer, its remainder has one
+pub offer_in : (ports : List (ℕ × ℕ × ℕ)) (port : ℕ) → option_map_or (λ (words : ℕ × ℕ). nat_eq words.0 1) (at_place (map (λ (p : ℕ × ℕ × ℕ). (p.0, (p.1, p.2))) ports) port) false ≡ true → some_offer ports (port % 64) ≡ true
+offer_in [] port offered = absurd (false≢true offered)
+offer_in (p ∷ ports) port offered = go (nat_eq port p.0) refl (offer_in ports port) offered
+  where
+    go : (b : Bool) → nat_eq port p.0 ≡ b
+        → (option_map_or (λ (words : ℕ × ℕ). nat_eq words.0 1) (at_place (map (λ (q : ℕ × ℕ × ℕ). (q.0, (q.1, q.2))) ports) port) false ≡ true → some_offer ports (port % 64) ≡ true)
+        → option_map_or (λ (words : ℕ × ℕ). nat_eq words.0 1) (cond b (Some (p.1, p.2)) (at_place (map (λ (q : ℕ × ℕ × ℕ). (q.0, (q.1, q.2))) ports) port)) false ≡ true
+        → some_offer (p ∷ ports) (port % 64) ≡ true
+    go true same rest first =
+        let remainder : nat_eq (p.0 % 64) (port % 64) ≡ true = eq-eqb (p.0 % 64) (port % 64) (ap (λ n. n % 64) (sym (eqb-true port p.0 same))) in
+        ap (λ b. (b && nat_eq p.1 1) || some_offer ports (port % 64)) remainder ∙ ap (λ b. b || some_offer ports (port % 64)) first
+    go false other rest later = ap (λ b. offers_at (port % 64) p || b) (rest later) ∙ or-true (offers_at (port % 64) p)
+
+-- a fact more
+pub needs_more : (c : RawCircuit) (slots : List Giver) (facts : List Fact) (fact : Fact) (needs new : ℕ) → IsNeeds c slots facts needs
+    → ((texts : List (List ℕ)) (reading : Reading) (word : ℕ) → Misses (some_offer reading.ports) word → so_in c texts reading slots fact ≡ true → bit_and word needs ≡ 0 → bit_and word new ≡ 0)
+    → IsNeeds c slots (facts ++ fact ∷ []) new
+needs_more c slots facts fact needs new is more texts reading word misses all =
+    let each = both (list_all (so_in c texts reading slots) facts) (so_in c texts reading slots fact) (sym (all-append (so_in c texts reading slots) facts (fact ∷ [])) ∙ all) in
+    more texts reading word misses each.1 (is texts reading word misses each.0)
+
+-- a bit that a word has not, it has not with fewer bits
+pub none_kept : (a b j : ℕ) → bit_and a (2 ^ j) ≡ 0 → bit_and (bit_and a b) (2 ^ j) ≡ 0
+none_kept a b j none = ap (λ n. bit_and n (2 ^ j)) (and_comm a b) ∙ and_assoc (2 ^ j) b a ∙ ap (bit_and b) none ∙ and_zero_r b
