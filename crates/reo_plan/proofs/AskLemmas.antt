@@ -1,12 +1,11 @@
 -- What rows ask by number is what they ask in slots of their own.
-use Rattle.std.proofs.Common.{◌≡◌, ℕ, zero, suc, ◌+◌, List, [], ◌∷◌, ◌++◌, length, slice_get, get_or, position, Some, None, is_some, Bool, true, false, not, cond, nat_lt, ◌&&◌, ◌<◌, Result, Ok, Err, OnOk, refl, sym, ap, ◌∙◌, subst, arith}
+use Rattle.std.proofs.Common.{◌≡◌, ℕ, zero, suc, ◌+◌, List, [], ◌∷◌, ◌++◌, length, slice_get, get_or, position, Option, Some, None, is_some, Bool, true, false, not, cond, nat_lt, ◌&&◌, ◌<◌, Result, Ok, Err, OnOk, refl, sym, ap, ◌∙◌, subst, arith}
 use Rattle.std.specs.List.{list_all}
 use Rattle.std.specs.Option.{option_map_or}
 use Rattle.std.specs.Int.RustNames.{bit_and}
-use Rattle.std.proofs.lemmas.Bool.{lt-ltb, le-ltb}
-use Rattle.std.proofs.lemmas.Option.{same_Some, slice_get-get_or, slice_get_within, get_or_from_slice_get}
-use Rattle.std.proofs.lemmas.List.{length-map, get_or-map}
-use Rattle.std.proofs.lemmas.List.Sums.{position_or_len_is}
+use Rattle.std.proofs.lemmas.Bool.{false≢true, lt-ltb, le-ltb}
+use Rattle.std.proofs.lemmas.Option.{same_Some, slice_get-get_or}
+use Rattle.std.proofs.lemmas.List.Sums.{AllPass-from_list_all, position_or_len_is}
 use Rattle.reo_net.specs.declared.circuit.RawCircuit.{RawCircuit}
 use Rattle.reo_fabric.specs.declared.reading.Reading.{Reading}
 use Rattle.reo_flow.specs.declared.fact.Fact.{Fact}
@@ -18,12 +17,14 @@ use Rattle.reo_plan.specs.declared.asks.Asks.{Asks}
 use Rattle.reo_plan.specs.declared.asks.Shared.{Shared}
 use Rattle.reo_plan.specs.declared.marks.Marks.{Marks}
 use Rattle.reo_plan.specs.inside.Slots.{slot_at, slot_value, AreOrdered, Extends, HasFlow}
-use Rattle.reo_plan.specs.inside.Marks.{AreMarks, Misses, low_half, shares}
+use Rattle.reo_plan.specs.inside.Marks.{AreMarks, Misses}
+use Rattle.reo_growth.specs.Lists.{has}
+use Rattle.reo_plan.specs.inside.Columns.{column_bit, numbers_at}
 use Rattle.reo_plan.specs.inside.Needs.{some_offer}
 use Rattle.reo_plan.specs.inside.Plans.{fits}
-use Rattle.reo_plan.specs.inside.Asks.{so_in, number_so, IsSameFact, IsNumbered, HasAsks, IsAsks, AreAsks, IsShared, AreShared, low_mask}
+use Rattle.reo_plan.specs.inside.Asks.{so_in, number_so, IsSameFact, IsNumbered, HasAsks, IsAsks, AreAsks, IsShared, AreShared}
+use Rattle.reo_plan.proofs.ColumnLemmas.{passing_has}
 use Rattle.reo_plan.proofs.FactLemmas.{all-append}
-use Rattle.reo_plan.proofs.MarkLemmas.{shares_whole}
 use Rattle.reo_plan.proofs.SlotLemmas.{kept_value, get-extended, extends_same, extends_on}
 
 -- what is so where all went well
@@ -122,6 +123,10 @@ shared_at c (r ∷ plans) (s ∷ all) are (suc region) rows found = shared_at c 
 shared_at c [] (s ∷ all) are region rows found = absurd are
 shared_at c (r ∷ plans) [] are region rows found = absurd are
 
+pub and-left : (a b : Bool) → (a && b) ≡ true → a ≡ true
+and-left true b e = refl
+and-left false b e = e
+
 with_false : (b : Bool) → false ≡ (b && false)
 with_false true = refl
 with_false false = refl
@@ -136,6 +141,16 @@ module _ (c : RawCircuit) (texts : List (List ℕ)) (reading : Reading) (slots :
   own_fails fails =
       let numbers = list_all (number_so c texts reading slots facts) asks.numbers in
       with_false numbers ∙ ap (λ b. numbers && b) fails ∙ asked_fits
+
+  -- a row that asks a number which fails does not fit
+  pub number_fails : (i : ℕ) → i < length asks.numbers → number_so c texts reading slots facts (get_or asks.numbers i 0) ≡ false → false ≡ fits c texts reading row
+  number_fails i within fails = go (fits c texts reading row) refl
+    where
+      go : (b : Bool) → fits c texts reading row ≡ b → false ≡ fits c texts reading row
+      go true e =
+          let all = and-left (list_all (number_so c texts reading slots facts) asks.numbers) (list_all (so_in c texts reading row.slots) asks.rest) (asked_fits ∙ e) in
+          absurd (false≢true (sym fails ∙ AllPass-from_list_all (number_so c texts reading slots facts) asks.numbers all i 0 within))
+      go false e = sym e
 
   -- a row that needs an offer which is missing does not fit
   pub unoffered_fails : (missing : ℕ) → Misses (some_offer reading.ports) missing → (bit_and missing asks.needs ≡ 0 → ⊥) → false ≡ fits c texts reading row
@@ -153,25 +168,26 @@ module _ (c : RawCircuit) (texts : List (List ℕ)) (reading : Reading) (slots :
       go true e = absurd (shares (is.mask (number_so c texts reading slots facts) marks.failed are.failed e))
       go false e = ap (λ b. b && list_all (so_in c texts reading row.slots) asks.rest) (sym e) ∙ asked_fits
 
-pub asks_long : (c : RawCircuit) (slots : List Giver) (facts : List Fact) (rows : List Row) (all : List Asks) → AreAsks c slots facts rows all → length all ≡ length rows
-asks_long c slots facts [] [] are = refl
-asks_long c slots facts (row ∷ rows) (asks ∷ all) are = ap suc (asks_long c slots facts rows all are.1)
-asks_long c slots facts [] (asks ∷ all) are = absurd are
-asks_long c slots facts (row ∷ rows) [] are = absurd are
+-- whether the row with this number is there and fits
+abbrev pub fits_at : RawCircuit → List (List ℕ) → Reading → List Row → ℕ → Bool
+fits_at c texts reading rows row = option_map_or (fits c texts reading) (slice_get rows row) false
 
-module _ (c : RawCircuit) (rows : List Row) (shared : Shared) (is : IsShared c rows shared) where
-  pub masks_long : length shared.masks ≡ length rows
-  masks_long = ap length is.masks ∙ length-map shared.asks low_mask ∙ asks_long c shared.slots shared.facts rows shared.asks is.asks
+module _ (c : RawCircuit) (rows : List Row) (shared : Shared) (is : IsShared c rows shared) (texts : List (List ℕ)) (reading : Reading) where
+  -- no row that fits is in the column of a fact that fails
+  pub column_of_failed : (number row : ℕ) → row < 4096 → fits_at c texts reading rows row ≡ true → number_so c texts reading shared.slots shared.facts number ≡ false → column_bit shared.columns number row ≡ 0
+  column_of_failed number row small fit fails = is.columns number row small (ap not (go (slice_get rows row) refl fit))
+    where
+      go : (o : Option Row) → slice_get rows row ≡ o → option_map_or (fits c texts reading) o false ≡ true → has (numbers_at shared.asks row) number ≡ false
+      go None found fit = absurd (false≢true fit)
+      go (Some own) found fit =
+          let at = asks_at c shared.slots shared.facts rows shared.asks is.asks row own found in
+          let all = and-left (list_all (number_so c texts reading shared.slots shared.facts) at.0.numbers) (list_all (so_in c texts reading own.slots) at.0.rest)
+          (asked_fits c texts reading shared.slots shared.facts own at.0 at.2 ∙ fit) in
+          ap (λ o. has (option_map_or (λ (asks : Asks). asks.numbers) o []) number) at.1 ∙ passing_has (number_so c texts reading shared.slots shared.facts) at.0.numbers number all fails
 
-  -- a row does not fit that has a failed fact by the low half of its mask
-  pub low_fails : (texts : List (List ℕ)) (reading : Reading) (marks : Marks) → AreMarks (number_so c texts reading shared.slots shared.facts) marks
-      → (k : ℕ) (d : Row) → k < length rows → shares (low_half marks.failed) (get_or shared.masks k 0) ≡ true → fits c texts reading (get_or rows k d) ≡ false
-  low_fails texts reading marks are k d within share =
-      let row = get_or rows k d in
-      let at = asks_at c shared.slots shared.facts rows shared.asks is.asks k row (slice_get-get_or rows k d within) in
-      let mask : get_or shared.masks k 0 ≡ low_mask at.0 =
-      ap (λ xs. get_or xs k 0) is.masks ∙ get_or-map low_mask shared.asks k at.0 0 (slice_get_within shared.asks k at.0 at.1) ∙ ap low_mask (get_or_from_slice_get shared.asks k at.0 at.0 at.1) in
-      sym (masked_fails c texts reading shared.slots shared.facts row at.0 at.2 marks are (shares_whole marks.failed at.0.mask (sym (ap (shares (low_half marks.failed)) mask) ∙ share)))
+-- a row that is there fits just where it fits by its number
+pub fits_there : (c : RawCircuit) (texts : List (List ℕ)) (reading : Reading) (rows : List Row) (k : ℕ) (d : Row) → k < length rows → fits c texts reading (get_or rows k d) ≡ fits_at c texts reading rows k
+fits_there c texts reading rows k d within = sym (ap (λ o. option_map_or (fits c texts reading) o false) (slice_get-get_or rows k d within))
 
 -- the first that passes
 pub position_some : {A : Type 0} (p : A → Bool) (xs : List A) (i : ℕ) (d : A) → i < length xs → ((k : ℕ) → k < i → p (get_or xs k d) ≡ false) → p (get_or xs i d) ≡ true → Some i ≡ position p xs

@@ -14,6 +14,7 @@ pub mod FirstLaw
 pub mod BackLaw
 pub mod MarkLemmas
 pub mod NeedLemmas
+pub mod ColumnLemmas
 pub mod AskLemmas
 pub mod IncomingLemmas
 pub mod CellLemmas

@@ -9,5 +9,6 @@ pub mod Sides
 pub mod Back
 pub mod Marks
 pub mod Needs
+pub mod Columns
 pub mod Asks
 pub mod Known

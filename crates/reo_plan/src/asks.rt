@@ -4,10 +4,11 @@ ghost use Rattle.std.specs.List.{list_all};
 ghost use Rattle.reo_net.specs.declared.circuit.RawCircuit.{RawCircuit};
 ghost use Rattle.reo_flow.specs.declared.fact.Fact.{Fact as AnyFact};
 ghost use Rattle.reo_plan.specs.inside.Slots.{slot_at, AreOrdered, AreMore, Extends, HasFlow};
-ghost use Rattle.reo_plan.specs.inside.Asks.{is_direct, is_presence, IsSameFact, IsNumbered, HasAsks, IsAsks, IsShared, AreShared, low_mask};
+ghost use Rattle.reo_plan.specs.inside.Asks.{is_direct, is_presence, IsSameFact, IsNumbered, HasAsks, IsAsks, IsShared, AreShared};
 
+use crate::columns::columns_of;
 use crate::facts::is_same;
-use crate::marks::{low_half, mask_of};
+use crate::marks::mask_of;
 use crate::needs::needs_of;
 use crate::row::Row;
 use crate::slots::{Givers, giver_at, slot_of};
@@ -31,8 +32,8 @@ pub(crate) struct Shared {
     pub(crate) slots: Items<Giver>,
     pub(crate) facts: Items<Fact>,
     pub(crate) asks: Items<Asks>,
-    /// Of each mask of the asks the low half, one behind the other: so many are looked at together.
-    pub(crate) masks: Items<u32>,
+    /// Where there are many firings: for each fact, those that ask it.
+    pub(crate) columns: Items<u64>,
 }
 
 fn is_direct(giver: &Giver) -> bool
@@ -267,17 +268,6 @@ fn presence_of_all(
     Ok(())
 }
 
-/// The low halves of the masks.
-fn masks_of(alloc: Global, asks: &[Asks]) -> Result<Items<u32>, AllocError>
-    ensures { IfOk result (λ masks. masks ≡ map low_mask asks.now) }
-{
-    let mut masks = Items::new(alloc);
-    for own in asks {
-        masks.push(low_half(own.mask))?;
-    }
-    Ok(masks)
-}
-
 /// What the rows of a region ask.
 fn shared_by(alloc: Global, rows: &[Row]) -> Result<Shared, AllocError>
     ensures { IfOk result (λ shared. (c : RawCircuit) → IsShared c rows.now shared) }
@@ -290,12 +280,12 @@ fn shared_by(alloc: Global, rows: &[Row]) -> Result<Shared, AllocError>
         let own = asks_of(alloc, &mut slots, &mut facts, row)?;
         asks.push(own)?;
     }
-    let masks = masks_of(alloc, asks.as_slice())?;
+    let columns = columns_of(alloc, asks.as_slice())?;
     Ok(Shared {
         slots,
         facts,
         asks,
-        masks,
+        columns,
     })
 }
 

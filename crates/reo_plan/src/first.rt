@@ -1,14 +1,16 @@
 //! The first of a region's firings that a reading allows.
-ghost use Rattle.std.specs.Prelude.{◌≡◌, ◌≤◌, ◌<◌, [], ◌∷◌, length, position, true};
+ghost use Rattle.std.specs.Prelude.{◌≡◌, ℕ, ◌<◌, [], ◌∷◌, position, Bool, true, false};
 ghost use Rattle.std.specs.List.{list_all};
-ghost use Rattle.reo_plan.specs.inside.Marks.{AreMarks, Misses, AllShare, shares};
+ghost use Rattle.reo_plan.specs.inside.Columns.{column_bit, MissesRows};
+ghost use Rattle.reo_plan.specs.inside.Marks.{AreMarks, Misses};
 ghost use Rattle.reo_plan.specs.inside.Needs.{some_offer};
 ghost use Rattle.reo_plan.specs.inside.Asks.{so_in, number_so, IsAsks, IsShared};
 ghost use Rattle.reo_plan.specs.inside.Plans.{fits};
 
 use crate::asks::{Asks, Shared};
+use crate::columns::{RuledOut, next_row, none_out, rule_out};
 use crate::evaluate::is_so;
-use crate::marks::{Marks, is_known, low_half, mark, no_marks};
+use crate::marks::{Marks, is_known, mark, no_marks};
 use crate::needs::unoffered;
 use crate::row::Row;
 use crate::sources::Words;
@@ -19,6 +21,7 @@ use reo_net::Net;
 use reo_value::Lexicon;
 use sqlite_items::at;
 
+#[inline(always)]
 fn number_so(
     net: &Net,
     texts: &Lexicon,
@@ -36,6 +39,7 @@ fn number_so(
 }
 
 /// Whether the fact with this number is so, as it is marked or else as it is found.
+#[inline(always)]
 fn found_so(
     net: &Net,
     texts: &Lexicon,
@@ -124,44 +128,8 @@ fn row_fits(
     all_found_so(net, texts, reading, slots, facts, marks, numbers)
 }
 
-/// How many masks are looked at together.
-const STRIDE: usize = 64;
-
-/// Whether each of these masks shares a bit with the word. All are looked at, many at once.
-fn all_share(masks: &[u32], word: u32) -> bool
-    ensures { result ≡ list_all (shares word) masks.now }
-{
-    let mut all = true;
-    for mask in masks {
-        all &= *mask & word != 0;
-    }
-    all
-}
-
-/// The end of the run of rows that begins here.
-fn run_end(from: usize, len: usize) -> usize
-    requires { from < len }
-    ensures after { from < result }
-    ensures within { result ≤ len }
-{
-    if len - from < STRIDE {
-        len
-    } else {
-        from + STRIDE
-    }
-}
-
-/// Whether this is a whole run of rows that all ask what has failed.
-fn run_fails(masks: &[u32], from: usize, to: usize, failed: u32) -> bool
-    requires from { from ≤ to }
-    requires to { to ≤ length masks.now }
-    ensures { result ≡ true → AllShare failed masks.now from to }
-{
-    if to - from != STRIDE {
-        return false;
-    }
-    all_share(&masks[from..from + STRIDE], failed)
-}
+/// Up to how many rows each is looked at: of more, those that a fact rules out are passed over by their bits.
+const FEW: usize = 64;
 
 /// The only row, where all its facts are so: none of them is asked twice.
 #[inline(always)]
@@ -181,15 +149,67 @@ fn only_row(net: &Net, texts: &Lexicon, reading: &Reading, row: &Row) -> Option<
     }
 }
 
-/// The bits of which no port has an offer, where there are few rows. Many are passed over by what has failed.
-fn missing_for(ports: &[(u32, u64, u64)], rows: usize) -> u64
-    ensures { Misses (some_offer ports.now) result }
+/// Whether all that a row asks is so. Where a fact that rows share fails, all rows that ask it are ruled out.
+fn fits_or_rules_out(
+    net: &Net,
+    texts: &Lexicon,
+    reading: &View<'_>,
+    shared: &Shared,
+    marks: &mut Marks,
+    out: &mut RuledOut,
+    row: &Row,
+    asks: &Asks,
+) -> bool
+    requires asks { IsAsks net.now shared.now.slots shared.now.facts row.now asks.now }
+    requires marks { AreMarks (number_so net.now texts.now reading.now shared.now.slots shared.now.facts) marks.old }
+    ensures fits { result ≡ fits net.now texts.now reading.now row.now }
+    ensures marks { AreMarks (number_so net.now texts.now reading.now shared.now.slots shared.now.facts) marks.new }
+    ensures out { (p : ℕ → Bool) → ((number row : ℕ) → row < 4096 → p row ≡ true → number_so net.now texts.now reading.now shared.now.slots shared.now.facts number ≡ false → column_bit shared.now.columns number row ≡ 0) → MissesRows p out.old.words → MissesRows p out.new.words }
 {
-    if rows < STRIDE { unoffered(ports) } else { 0 }
+    let own = row.slots.as_slice();
+    let rest = asks.rest.as_slice();
+    if !all_so(net, texts, reading, own, rest) {
+        return false;
+    }
+    let slots = shared.slots.as_slice();
+    let facts = shared.facts.as_slice();
+    let numbers = asks.numbers.as_slice();
+    for number in numbers {
+        if !found_so(net, texts, reading, slots, facts, marks, *number) {
+            rule_out(out, shared.columns.as_slice(), *number);
+            return false;
+        }
+    }
+    true
 }
 
-/// The first row of several. A row with a fact that has failed is passed over by one look at its mask, and many such rows by
-/// one look at all of theirs.
+/// The first row of few. A row is passed over by one look at the offers that it needs, and by one at what has failed.
+#[inline(never)]
+fn first_of_few(
+    net: &Net,
+    texts: &Lexicon,
+    reading: &Reading,
+    shared: &Shared,
+    rows: &[Row],
+) -> Option<usize>
+    requires { IsShared net.now rows.now shared.now }
+    ensures { result ≡ position (fits net.now texts.now reading.now) rows.now }
+{
+    let view = View::new(reading);
+    let missing = unoffered(reading.ports.as_slice());
+    let mut marks = no_marks();
+    let asks = shared.asks.as_slice();
+    for row in 0..rows.len() {
+        if row_fits(
+            net, texts, &view, shared, missing, &mut marks, &rows[row], &asks[row],
+        ) {
+            return Some(row);
+        }
+    }
+    None
+}
+
+/// The first row of many. Those that a fact has ruled out are passed over by their bits.
 #[inline(never)]
 fn first_of_many(
     net: &Net,
@@ -202,23 +222,17 @@ fn first_of_many(
     ensures { result ≡ position (fits net.now texts.now reading.now) rows.now }
 {
     let view = View::new(reading);
-    let missing = missing_for(reading.ports.as_slice(), rows.len());
     let mut marks = no_marks();
+    let mut out = none_out();
     let asks = shared.asks.as_slice();
-    let masks = shared.masks.as_slice();
-    let mut from = 0;
-    while from < rows.len() {
-        let to = run_end(from, rows.len());
-        if !run_fails(masks, from, to, low_half(marks.failed)) {
-            for row in from..to {
-                if row_fits(
-                    net, texts, &view, shared, missing, &mut marks, &rows[row], &asks[row],
-                ) {
-                    return Some(row);
-                }
-            }
+    let mut row = next_row(&out, 0);
+    while row < rows.len() {
+        if fits_or_rules_out(
+            net, texts, &view, shared, &mut marks, &mut out, &rows[row], &asks[row],
+        ) {
+            return Some(row);
         }
-        from = to;
+        row = next_row(&out, row + 1);
     }
     None
 }
@@ -237,6 +251,8 @@ pub(crate) fn first_row(
 {
     if rows.len() == 1 {
         only_row(net, texts, reading, &rows[0])
+    } else if rows.len() <= FEW {
+        first_of_few(net, texts, reading, shared, rows)
     } else {
         first_of_many(net, texts, reading, shared, rows)
     }

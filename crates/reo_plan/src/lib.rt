@@ -3,6 +3,7 @@
 
 mod asks;
 mod back;
+mod columns;
 mod compiler;
 mod evaluate;
 mod facts;

@@ -1,7 +1,7 @@
 //! Which of the first facts are known to be so for a reading, and which are known to fail.
 ghost use Rattle.std.specs.Prelude.{◌≡◌, ℕ, ◌<◌, ◌^◌, Bool, nat_eq, not, true};
 ghost use Rattle.std.specs.Int.RustNames.{bit_and};
-ghost use Rattle.reo_plan.specs.inside.Marks.{AreMarks, IsMask, Misses, low_half};
+ghost use Rattle.reo_plan.specs.inside.Marks.{AreMarks, IsMask, Misses};
 
 /// A bit for each of the first 64 facts of a region: it is known to be so, or it is known to fail.
 #[derive(Clone, Copy)]
@@ -38,13 +38,6 @@ pub(crate) fn mask_of(numbers: &[u32]) -> u64
         mask = with_bit(mask, *number);
     }
     mask
-}
-
-/// The low half of a word.
-pub(crate) fn low_half(word: u64) -> u32
-    ensures { result ≡ low_half word }
-{
-    (word % (1 << 32)) as u32
 }
 
 pub(crate) fn no_marks() -> Marks

@@ -1,5 +1,5 @@
 -- What firings ask, by the numbers of the facts that they share: each fact has its datum in a slot that they share too.
-use Rattle.std.specs.Prelude.{◌≡◌, ℕ, map, List, [], ◌∷◌, slice_get, Bool, true, false, ◌&&◌}
+use Rattle.std.specs.Prelude.{◌≡◌, ℕ, List, [], ◌∷◌, slice_get, Bool, true, false, ◌&&◌}
 use Rattle.std.specs.List.{list_all}
 use Rattle.std.specs.Int.RustNames.{bit_and}
 use Rattle.std.specs.Option.{option_map_or}
@@ -14,7 +14,8 @@ use Rattle.reo_plan.specs.declared.row.Row.{Row}
 use Rattle.reo_plan.specs.declared.asks.Asks.{Asks}
 use Rattle.reo_plan.specs.declared.asks.Shared.{Shared}
 use Rattle.reo_plan.specs.inside.Slots.{slot_at, slot_value, Extends}
-use Rattle.reo_plan.specs.inside.Marks.{Misses, IsMask, low_half}
+use Rattle.reo_plan.specs.inside.Marks.{Misses, IsMask}
+use Rattle.reo_plan.specs.inside.Columns.{AreColumns}
 use Rattle.reo_plan.specs.inside.Needs.{some_offer}
 
 -- no function gives this
@@ -76,14 +77,10 @@ AreAsks c slots facts (row ∷ rows) (asks ∷ all) = IsAsks c slots facts row a
 AreAsks c slots facts [] (asks ∷ all) = ⊥
 AreAsks c slots facts (row ∷ rows) [] = ⊥
 
--- the low half of a mask
-abbrev pub low_mask : Asks → ℕ
-low_mask asks = low_half asks.mask
-
--- these are the asks of the rows, and the low halves of their masks
+-- these are the asks of the rows, and the columns of bits are of rows that ask
 pub record IsShared (c : RawCircuit) (rows : List Row) (shared : Shared) : Type 0 where
   pub asks : AreAsks c shared.slots shared.facts rows shared.asks
-  pub masks : shared.masks ≡ map low_mask shared.asks
+  pub columns : AreColumns shared.asks shared.columns
 
 abbrev pub AreShared : RawCircuit → List (List Row) → List Shared → Type 0
 AreShared c [] [] = Unit {0}

@@ -1,5 +1,5 @@
 -- Words of bits that tell which of the first facts are so, and which are not.
-use Rattle.std.specs.Prelude.{◌≡◌, ℕ, ◌^◌, ◌%◌, ◌≤◌, ◌<◌, List, get_or, Bool, true, not, nat_eq}
+use Rattle.std.specs.Prelude.{◌≡◌, ℕ, ◌^◌, List, Bool, true, not}
 use Rattle.std.specs.List.{list_all}
 use Rattle.std.specs.Int.RustNames.{bit_and}
 use Rattle.reo_plan.specs.declared.marks.Marks.{Marks}
@@ -16,15 +16,3 @@ pub record AreMarks (p : ℕ → Bool) (marks : Marks) : Type 0 where
 -- where all of the numbers pass a test, the mask shares no bit with a word that misses what passes
 abbrev pub IsMask : List ℕ → ℕ → Type 0
 IsMask numbers mask = (p : ℕ → Bool) (word : ℕ) → Misses p word → list_all p numbers ≡ true → bit_and word mask ≡ 0
-
--- the low half of a word of 64 bits
-abbrev pub low_half : ℕ → ℕ
-low_half word = word % 2 ^ 32
-
--- the mask shares a bit with the word
-abbrev pub shares : ℕ → ℕ → Bool
-shares word mask = not (nat_eq (bit_and mask word) 0)
-
--- so does each mask from one place up to another
-abbrev pub AllShare : ℕ → List ℕ → ℕ → ℕ → Type 0
-AllShare word masks from to = (k : ℕ) → from ≤ k → k < to → shares word (get_or masks k 0) ≡ true

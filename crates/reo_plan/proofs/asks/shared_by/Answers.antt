@@ -1,7 +1,8 @@
-use Rattle.std.proofs.Common.{◌++◌, ◌∷◌, [], ◌+◌, Some, map, take, sym, ap, ◌∙◌, subst, arith}
+use Rattle.std.proofs.Common.{◌++◌, ◌∷◌, [], ◌+◌, Some, take, sym, ap, ◌∙◌, subst, arith}
 use Rattle.std.proofs.lemmas.List.{take_all}
 use Rattle.std.proofs.lemmas.Option.{slice_get-get_or}
-use Rattle.reo_plan.specs.inside.Asks.{AreAsks, low_mask}
+use Rattle.reo_plan.specs.inside.Asks.{AreAsks}
+use Rattle.reo_plan.specs.inside.Columns.{AreColumns}
 use Rattle.reo_plan.proofs.AskLemmas.{kept_asks, asks-push}
 use Rattle.reo_plan.proofs.PlaceSlotLemmas.{take_more}
 use Rattle.reo_plan.proofs.asks.shared_by.Goals as goal
@@ -24,5 +25,5 @@ loop-row-preserved c =
 pub returns : goal.returns
 returns c = λ c'. record {
   asks = subst (λ l. AreAsks c' c.loop-row.slots c.loop-row.facts l c.loop-row.asks) (take_all c.loop-row.row-index c.args.rows.now (omega arith)) (c.loop-row.invariant.1 c');
-  masks = c.in_ok-masks.ensures ∙ ap (map low_mask) c.as_slice.ensures;
+  columns = subst (λ l. AreColumns l c.in_ok-columns.columns) c.as_slice.ensures c.in_ok-columns.ensures;
 }

@@ -1,34 +1,19 @@
-use Rattle.std.proofs.Common.{◌≡◌, ⊎_elim, length, slice_get, Some, sym, ap, ◌∙◌, subst, arith}
+use Rattle.std.proofs.Common.{◌≡◌, ◌+◌, ⊎_elim, slice_get, Some, false, sym, ap, ◌∙◌, subst, arith}
 use Rattle.std.proofs.lemmas.Option.{slice_get-get_or, slice_get_within, get_or_from_slice_get}
 use Rattle.std.proofs.lemmas.Bool.{cases_lt}
-use Rattle.reo_plan.specs.inside.Marks.{AllShare, low_half}
 use Rattle.reo_plan.specs.inside.Plans.{fits}
 use Rattle.reo_plan.specs.inside.Asks.{number_so, IsAsks}
-use Rattle.reo_plan.proofs.AskLemmas.{asks_at, masks_long, low_fails, position_some, position_none}
+use Rattle.reo_plan.specs.inside.Marks.{AreMarks}
+use Rattle.reo_plan.proofs.AskLemmas.{asks_at, fits_at, fits_there, column_of_failed, position_some, position_none}
 use Rattle.reo_plan.proofs.first.first_of_many.Goals as goal
 
-pub loop-from-init : goal.loop-from-init
-loop-from-init c = record {
-  within = omega arith;
-  marks = c.no_marks-marks.ensures (number_so c.args.net.now c.args.texts.now c.args.reading.now c.args.shared.now.slots c.args.shared.now.facts);
-  before = λ k d less. absurd (omega (arith, less));
-}
-
-pub run_fails-requires-clause-to : goal.run_fails-requires-clause-to
-run_fails-requires-clause-to c = omega (arith, c.run_end-to.ensures.within, masks_long c.args.net.now c.args.rows.now c.args.shared.now c.requires, ap length c.as_slice-masks.ensures)
-
-pub loop-from-preserved : goal.loop-from-preserved
-loop-from-preserved c =
-    let rows = c.args.rows.now in
-    let from = c.loop-from.from in
-    let to = c.run_end-to.result in
-    let share : AllShare (low_half c.loop-from.marks.failed) c.args.shared.now.masks from to =
-    subst (λ word. AllShare word c.args.shared.now.masks from to) c.low_half.ensures
-    (subst (λ l. AllShare c.low_half.result l from to) c.as_slice-masks.ensures (c.run_fails.ensures c.if-not-run_fails.false)) in record {
-      within = c.run_end-to.ensures.within;
-      marks = c.loop-from.invariant.marks;
-      before = λ k d less. ⊎_elim (λ early. c.loop-from.invariant.before k d early)
-          (λ late. low_fails c.args.net.now rows c.args.shared.now c.requires c.args.texts.now c.args.reading.now c.loop-from.marks c.loop-from.invariant.marks k d (omega (arith, less, c.run_end-to.ensures.within)) (share k late less)) (cases_lt k from);
+pub loop-row-init : goal.loop-row-init
+loop-row-init c =
+    let p = fits_at c.args.net.now c.args.texts.now c.args.reading.now c.args.rows.now in
+    record {
+      marks = c.no_marks-marks.ensures (number_so c.args.net.now c.args.texts.now c.args.reading.now c.args.shared.now.slots c.args.shared.now.facts);
+      out = c.none_out-out.ensures p;
+      before = λ k less. c.next_row-row.ensures.passed p (c.none_out-out.ensures p) k (omega arith) less;
     }
 
 pub bounds-asks-row : goal.bounds-asks-row
@@ -39,8 +24,8 @@ bounds-asks-row c =
     let at = asks_at c.args.net.now c.args.shared.now.slots c.args.shared.now.facts rows c.args.shared.now.asks c.requires.asks c.loop-row.row row found in
     slice_get_within c.as_slice-asks.result.now c.loop-row.row at.0 (ap (λ all. slice_get all c.loop-row.row) c.as_slice-asks.ensures ∙ at.1)
 
-pub row_fits-requires-clause-asks : goal.row_fits-requires-clause-asks
-row_fits-requires-clause-asks c =
+pub fits_or_rules_out-requires-clause-asks : goal.fits_or_rules_out-requires-clause-asks
+fits_or_rules_out-requires-clause-asks c =
     let rows = c.args.rows.now in
     let row = c.index-rows-row.result in
     let found = slice_get-get_or rows c.loop-row.row row (omega arith) ∙ ap Some (sym c.index-rows-row.is) in
@@ -49,11 +34,39 @@ row_fits-requires-clause-asks c =
     c.index-asks-row.is ∙ get_or_from_slice_get c.as_slice-asks.result.now c.loop-row.row at.0 _ (ap (λ all. slice_get all c.loop-row.row) c.as_slice-asks.ensures ∙ at.1) in
     subst (IsAsks c.args.net.now c.args.shared.now.slots c.args.shared.now.facts row) (sym same) at.2
 
-pub returns-then-row_fits : goal.returns-then-row_fits
-returns-then-row_fits c =
+pub returns-then-fits_or_rules_out : goal.returns-then-fits_or_rules_out
+returns-then-fits_or_rules_out c =
     let row = c.index-rows-row.result in
-    position_some (fits c.args.net.now c.args.texts.now c.args.reading.now) c.args.rows.now c.loop-row.row row (omega arith) (λ k less. c.loop-row.invariant.before k row less)
-    (ap (fits c.args.net.now c.args.texts.now c.args.reading.now) (sym c.index-rows-row.is) ∙ sym (c.row_fits.ensures.fits ∙ ap (λ reading. fits c.args.net.now c.args.texts.now reading row) c.new-view.ensures) ∙ c.if-row_fits.true)
+    position_some (fits c.args.net.now c.args.texts.now c.args.reading.now) c.args.rows.now c.loop-row.row row (omega arith)
+    (λ k less. fits_there c.args.net.now c.args.texts.now c.args.reading.now c.args.rows.now k row (omega (arith, less)) ∙ c.loop-row.invariant.before k less)
+    (ap (fits c.args.net.now c.args.texts.now c.args.reading.now) (sym c.index-rows-row.is) ∙ sym (c.fits_or_rules_out.ensures.fits ∙ ap (λ reading. fits c.args.net.now c.args.texts.now reading row) c.new-view.ensures) ∙ c.if-fits_or_rules_out.true)
+
+pub loop-row-preserved : goal.loop-row-preserved
+loop-row-preserved c =
+    let net = c.args.net.now in
+    let texts = c.args.texts.now in
+    let reading = c.args.reading.now in
+    let rows = c.args.rows.now in
+    let shared = c.args.shared.now in
+    let at = c.loop-row.row in
+    let row = c.index-rows-row.result in
+    let p = fits_at net texts reading rows in
+    let out = c.fits_or_rules_out.ensures.out p
+    (λ number k small fit fails. column_of_failed net rows shared c.requires texts reading number k small fit (subst (λ r. number_so net texts r shared.slots shared.facts number ≡ false) c.new-view.ensures fails))
+    c.loop-row.invariant.out in
+    let here : p at ≡ false =
+    sym (fits_there net texts reading rows at row (omega arith)) ∙ ap (fits net texts reading) (sym c.index-rows-row.is)
+    ∙ sym (c.fits_or_rules_out.ensures.fits ∙ ap (λ r. fits net texts r row) c.new-view.ensures) ∙ c.if-fits_or_rules_out.false in
+    record {
+      marks = subst (λ r. AreMarks (number_so net texts r shared.slots shared.facts) c.fits_or_rules_out.new.marks) c.new-view.ensures c.fits_or_rules_out.ensures.marks;
+      out = out;
+      before = λ k less.
+          ⊎_elim (λ early. c.loop-row.invariant.before k early)
+          (λ late. ⊎_elim (λ below. ap p (let e : k ≡ at = omega (arith, late, below) in e) ∙ here) (λ after. c.next_row-row-in-loop-row.ensures.passed p out k after less) (cases_lt k (at + 1)))
+          (cases_lt k at);
+    }
 
 pub returns : goal.returns
-returns c = position_none (fits c.args.net.now c.args.texts.now c.args.reading.now) c.args.rows.now (λ k d less. c.loop-from.invariant.before k d (omega (arith, less)))
+returns c =
+    position_none (fits c.args.net.now c.args.texts.now c.args.reading.now) c.args.rows.now
+    (λ k d less. fits_there c.args.net.now c.args.texts.now c.args.reading.now c.args.rows.now k d less ∙ c.loop-row.invariant.before k (omega (arith, less)))
