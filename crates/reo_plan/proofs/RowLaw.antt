@@ -7,9 +7,10 @@ use Rattle.reo_net.specs.declared.circuit.Port.{Port}
 use Rattle.reo_net.specs.declared.circuit.RawCircuit.{RawCircuit}
 use Rattle.reo_net.specs.Names.{end_a, end_b}
 use Rattle.reo_net.specs.Stand.{is_put}
-use Rattle.reo_flow.specs.declared.fact.Fact.{Fact}
+use Rattle.reo_fabric.specs.declared.reading.Reading.{Reading}
+use Rattle.reo_plan.specs.inside.Asks.{so_in}
 use Rattle.reo_flow.specs.Places.{value_at_port, buffers, at_ports}
-use Rattle.reo_flow.specs.Flow.{Sources, sources_of, data_in, is_so}
+use Rattle.reo_flow.specs.Flow.{Sources, data_in}
 use Rattle.reo_plan.specs.declared.row.Row.{Row}
 use Rattle.reo_plan.specs.inside.Placed.{cell_at, port_at, placed_slots}
 use Rattle.reo_plan.specs.inside.Plans.{IsOfNames}
@@ -29,12 +30,12 @@ port_with value slot_of data_at same puts p port = go (cond puts (is_put port.wa
     go false = refl
 
 pub is_row : (c : RawCircuit) (names : List ℕ) (table : List (Option ℕ)) (row : Row) → HasSlots c names names row.slots table
-    → ((p : Fact → Bool) → list_all p row.facts ≡ list_all (λ name. list_all p (slot_facts c table name)) names)
+    → ((texts : List (List ℕ)) (reading : Reading) → list_all (so_in c texts reading row.slots) row.facts ≡ list_all (λ name. list_all (so_in c texts reading row.slots) (slot_facts c table name)) names)
     → IsOfNames c names → row.takes ≡ placed_slots (cell_at c true) table names → row.fills ≡ placed_slots (cell_at c false) table names
     → row.puts ≡ placed_slots (port_at c true) table names → row.gets ≡ placed_slots (port_at c false) table names → row.named ≡ named_slots table names → IsRow c names row
 is_row c names table row slots_of facts of takes fills puts gets named = record {
   ordered = slots_of.ordered;
-  facts = λ texts reading. facts (is_so c texts reading (slot_value c texts (sources_of reading) row.slots)) ∙ facts_allow c names row.slots table slots_of texts reading;
+  facts = λ texts reading. facts texts reading ∙ facts_allow c names row.slots table slots_of texts reading;
   takes = λ texts sources. ap (values_at (slot_value c texts sources row.slots)) (takes ∙ cells_placed c table names of.rising of.below slots_of.named true)
       ∙ values_with (slot_value c texts sources row.slots) (λ cell k. slot_in table (end_b c k)) (λ cell k. data_in c texts sources names (end_b c k)) (λ i k. slot_data c names row.slots table slots_of texts sources (end_b c k)) 0 (buffers c);
   fills = λ texts sources. ap (values_at (slot_value c texts sources row.slots)) (fills ∙ cells_placed c table names of.rising of.below slots_of.named false)

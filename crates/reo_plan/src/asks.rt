@@ -1,10 +1,12 @@
 //! What the firings of a region ask, by the numbers of the facts that they share.
-ghost use Rattle.std.specs.Prelude.{◌≡◌, ◌+◌, map, List, ◌∷◌, [], ◌++◌, slice_get, Some, IfOk, IfSome, OnOk, Bool, ◌&&◌};
+ghost use Rattle.std.specs.Prelude.{◌≡◌, ℕ, ◌+◌, ◌<◌, List, ◌∷◌, [], ◌++◌, length, drop, slice_get, Some, IfOk, IfSome, OnOk, Bool, true, ◌&&◌};
+ghost use Rattle.std.specs.Bool.{OnTrue};
 ghost use Rattle.std.specs.List.{list_all};
 ghost use Rattle.reo_net.specs.declared.circuit.RawCircuit.{RawCircuit};
+ghost use Rattle.reo_fabric.specs.declared.reading.Reading.{Reading as AnyReading};
 ghost use Rattle.reo_flow.specs.declared.fact.Fact.{Fact as AnyFact};
 ghost use Rattle.reo_plan.specs.inside.Slots.{slot_at, AreOrdered, AreMore, Extends, HasFlow};
-ghost use Rattle.reo_plan.specs.inside.Asks.{is_direct, is_presence, IsSameFact, IsNumbered, HasAsks, IsAsks, IsShared, AreShared};
+ghost use Rattle.reo_plan.specs.inside.Asks.{so_in, IsTold, is_direct, is_presence, IsSameFact, IsNumbered, HasAsks, IsAsks, IsShared, AreShared};
 
 use crate::columns::columns_of;
 use crate::facts::is_same;
@@ -86,18 +88,42 @@ fn add_all(facts: &mut Items<Fact>, more: &[Fact]) -> Result<(), AllocError>
     Ok(())
 }
 
-/// The facts, with those of presence before the others.
+/// Whether a fact asks for an offer of which the next fact asks the datum.
+fn is_told(slots: &[Giver], fact: &Fact, next: &Fact) -> bool
+    ensures { OnTrue result ((c : RawCircuit) (texts : List (List ℕ)) (reading : AnyReading) → so_in c texts reading slots.now next.now ≡ true → so_in c texts reading slots.now fact.now ≡ true) }
+{
+    match next {
+        Fact::Known(slot) => match giver_at(slots, *slot) {
+            Giver::Port(port) => is_same(fact, Fact::Offered(port)),
+            _ => false,
+        },
+        _ => false,
+    }
+}
+
+/// Whether the next fact tells that this one is so.
+fn is_told_by_next(slots: &[Giver], facts: &[Fact], place: usize) -> bool
+    requires { place < length facts.now }
+    ensures { OnTrue result (IsTold slots.now (drop place facts.now)) }
+{
+    place + 1 < facts.len() && is_told(slots, &facts[place], &facts[place + 1])
+}
+
+/// The facts, with those of presence before the others, and without the offers of which the data are asked.
 pub(crate) fn presence_first(
     alloc: Global,
     slots: &[Giver],
     facts: &[Fact],
 ) -> Result<Items<Fact>, AllocError>
-    ensures { IfOk result (λ sorted. (p : AnyFact → Bool) → list_all p sorted ≡ list_all p facts.now) }
+    ensures { IfOk result (λ sorted. (c : RawCircuit) (texts : List (List ℕ)) (reading : AnyReading) → list_all (so_in c texts reading slots.now) sorted ≡ list_all (so_in c texts reading slots.now) facts.now) }
 {
     let mut first = Items::new(alloc);
     let mut second = Items::new(alloc);
-    for fact in facts {
-        add_to(&mut first, &mut second, fact, is_presence(slots, fact))?;
+    for place in 0..facts.len() {
+        if !is_told_by_next(slots, facts, place) {
+            let fact = &facts[place];
+            add_to(&mut first, &mut second, fact, is_presence(slots, fact))?;
+        }
     }
     add_all(&mut first, second.as_slice())?;
     Ok(first)
@@ -228,7 +254,7 @@ fn asks_of(
     let mask = mask_of(numbers.as_slice());
     Ok(Asks {
         mask,
-        needs: needs_of(asked),
+        needs: needs_of(own, asked),
         numbers,
         rest,
     })

@@ -88,9 +88,12 @@ fn all_found_so(
 fn all_so<W: Words>(net: &Net, texts: &Lexicon, words: &W, slots: &[Giver], facts: &[Fact]) -> bool
     ensures { result ≡ list_all (so_in net.now texts.now (W.reading words.now) slots.now) facts.now }
 {
-    facts
-        .iter()
-        .all(|fact| is_so(net, texts, words, slots, fact))
+    for fact in facts {
+        if !is_so(net, texts, words, slots, fact) {
+            return false;
+        }
+    }
+    true
 }
 
 /// Whether all that a row asks is so. Where an offer that it needs is among those that are missing, it is not; and what it

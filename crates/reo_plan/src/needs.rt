@@ -3,31 +3,35 @@ ghost use Rattle.std.specs.Prelude.{◌≡◌, ℕ, ◌<◌, ◌^◌, List, Bool
 ghost use Rattle.std.specs.Int.RustNames.{bit_and};
 ghost use Rattle.reo_net.specs.declared.circuit.RawCircuit.{RawCircuit};
 ghost use Rattle.reo_fabric.specs.declared.reading.Reading.{Reading as AnyReading};
-ghost use Rattle.reo_flow.specs.declared.giver.Giver.{Giver as AnyGiver};
 ghost use Rattle.reo_plan.specs.inside.Asks.{so_in, IsNeeds};
 ghost use Rattle.reo_plan.specs.inside.Marks.{Misses};
 ghost use Rattle.reo_plan.specs.inside.Needs.{offers_at, some_offer};
 
 use crate::marks::{bit, with_bit};
-use reo_flow::Fact;
+use crate::slots::giver_at;
+use reo_flow::{Fact, Giver};
 
-/// The bits with that of the offer that a fact asks for.
-fn with_need(needs: u64, fact: &Fact) -> u64
-    ensures { (c : RawCircuit) (texts : List (List ℕ)) (reading : AnyReading) (slots : List AnyGiver) (word : ℕ) → Misses (some_offer reading.ports) word → so_in c texts reading slots fact.now ≡ true → bit_and word needs ≡ 0 → bit_and word result ≡ 0 }
+/// The bits with that of the offer that a fact asks for, or of which it asks the datum.
+fn with_need(needs: u64, slots: &[Giver], fact: &Fact) -> u64
+    ensures { (c : RawCircuit) (texts : List (List ℕ)) (reading : AnyReading) (word : ℕ) → Misses (some_offer reading.ports) word → so_in c texts reading slots.now fact.now ≡ true → bit_and word needs ≡ 0 → bit_and word result ≡ 0 }
 {
     match fact {
         Fact::Offered(port) => with_bit(needs, *port % 64),
+        Fact::Known(slot) => match giver_at(slots, *slot) {
+            Giver::Port(port) => with_bit(needs, port % 64),
+            _ => needs,
+        },
         _ => needs,
     }
 }
 
 /// The bits of the offers that these facts ask for.
-pub(crate) fn needs_of(facts: &[Fact]) -> u64
-    ensures { (c : RawCircuit) (slots : List AnyGiver) → IsNeeds c slots facts.now result }
+pub(crate) fn needs_of(slots: &[Giver], facts: &[Fact]) -> u64
+    ensures { (c : RawCircuit) → IsNeeds c slots.now facts.now result }
 {
     let mut needs = 0;
     for fact in facts {
-        needs = with_need(needs, fact);
+        needs = with_need(needs, slots, fact);
     }
     needs
 }

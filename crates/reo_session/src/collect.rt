@@ -61,6 +61,7 @@ fn post<D: Decider + Drop>(
 }
 
 /// Takes the answer to a component's next operation, where there is one, and offers the operation behind it.
+#[inline(always)]
 fn collect_own<D: Decider + Drop>(
     engine: &mut PlainEngine<D>,
     watch: &mut Watch,

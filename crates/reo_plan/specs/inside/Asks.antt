@@ -38,6 +38,12 @@ is_presence slots (Failed k slot) = false
 abbrev pub so_in : RawCircuit → List (List ℕ) → Reading → List Giver → Fact → Bool
 so_in c texts reading slots = is_so c texts reading (slot_value c texts (sources_of reading) slots)
 
+-- where the second of these facts is so, the first is
+abbrev pub IsTold : List Giver → List Fact → Type 0
+IsTold slots [] = ⊥
+IsTold slots (fact ∷ []) = ⊥
+IsTold slots (fact ∷ next ∷ facts) = (c : RawCircuit) (texts : List (List ℕ)) (reading : Reading) → so_in c texts reading slots next ≡ true → so_in c texts reading slots fact ≡ true
+
 -- whether the fact with this number is so
 abbrev pub number_so : RawCircuit → List (List ℕ) → Reading → List Giver → List Fact → ℕ → Bool
 number_so c texts reading slots facts number = option_map_or (so_in c texts reading slots) (slice_get facts number) false

@@ -30,5 +30,5 @@ returns-clause-asks c = λ c'.
     record {
       has = subst (λ l. HasAsks c' c.loop-fact.slots c.loop-fact.facts row.slots l c.loop-fact.numbers c.loop-fact.rest) (take_all n asked (omega arith) ∙ c.as_slice-asked.ensures) own;
       mask = subst (λ l. IsMask l c.mask_of-mask.result) c.as_slice.ensures c.mask_of-mask.ensures;
-      needs = subst (λ l. IsNeeds c' row.slots l c.needs_of.result) c.as_slice-asked.ensures (c.needs_of.ensures c' row.slots);
+      needs = subst (λ l. IsNeeds c' row.slots l c.needs_of.result) c.as_slice-asked.ensures (subst (λ own. IsNeeds c' own asked c.needs_of.result) c.as_slice-own.ensures (c.needs_of.ensures c'));
     }
