@@ -1,11 +1,14 @@
 -- What rows ask by number is what they ask in slots of their own.
-use Rattle.std.proofs.Common.{◌≡◌, ℕ, zero, suc, ◌+◌, List, [], ◌∷◌, ◌++◌, length, slice_get, get_or, position, Option, Some, None, is_some, Bool, true, false, not, cond, nat_lt, ◌&&◌, ◌<◌, Result, Ok, Err, OnOk, refl, sym, ap, ◌∙◌, subst, arith}
+use Rattle.std.proofs.Common.{◌≡◌, ℕ, zero, suc, ◌+◌, ◌^◌, List, [], ◌∷◌, ◌++◌, length, slice_get, get_or, position, Option, Some, None, is_some, Bool, true, false, not, cond, nat_lt, ◌&&◌, ◌<◌, Result, Ok, Err, OnOk, refl, sym, ap, ◌∙◌, subst, arith}
 use Rattle.std.specs.List.{list_all}
 use Rattle.std.specs.Option.{option_map_or}
+use Rattle.std.specs.Int.{bit_at}
 use Rattle.std.specs.Int.RustNames.{bit_and}
+use Rattle.std.proofs.lemmas.Nat.{and_comm, pow_apart}
+use Rattle.reo_plan.proofs.MarkLemmas.{not_shared}
 use Rattle.std.proofs.lemmas.Bool.{false≢true, lt-ltb, le-ltb}
 use Rattle.std.proofs.lemmas.Option.{same_Some, slice_get-get_or}
-use Rattle.std.proofs.lemmas.List.Sums.{AllPass-from_list_all, position_or_len_is}
+use Rattle.std.proofs.lemmas.List.Sums.{position_or_len_is}
 use Rattle.reo_net.specs.declared.circuit.RawCircuit.{RawCircuit}
 use Rattle.reo_fabric.specs.declared.reading.Reading.{Reading}
 use Rattle.reo_flow.specs.declared.fact.Fact.{Fact}
@@ -89,6 +92,8 @@ kept_asks c old new facts many e f (row ∷ rows) (asks ∷ all) are = (
   record {
     has = λ more others es ef. are.0.has more others (extends_on old new more e es) (extends_on facts many others f ef);
     mask = are.0.mask;
+    marked = are.0.marked;
+    small = are.0.small;
     needs = are.0.needs;
   },
   kept_asks c old new facts many e f rows all are.1,
@@ -142,14 +147,19 @@ module _ (c : RawCircuit) (texts : List (List ℕ)) (reading : Reading) (slots :
       let numbers = list_all (number_so c texts reading slots facts) asks.numbers in
       with_false numbers ∙ ap (λ b. numbers && b) fails ∙ asked_fits
 
+  -- a row fits where all that it asks is so
+  pub all_fit : list_all (number_so c texts reading slots facts) asks.numbers ≡ true → list_all (so_in c texts reading row.slots) asks.rest ≡ true → true ≡ fits c texts reading row
+  all_fit of_numbers of_rest = sym (ap (λ b. b && list_all (so_in c texts reading row.slots) asks.rest) of_numbers ∙ of_rest) ∙ asked_fits
+
   -- a row that asks a number which fails does not fit
-  pub number_fails : (i : ℕ) → i < length asks.numbers → number_so c texts reading slots facts (get_or asks.numbers i 0) ≡ false → false ≡ fits c texts reading row
-  number_fails i within fails = go (fits c texts reading row) refl
+  pub number_fails : (number : ℕ) → bit_at asks.mask number ≡ 1 → number_so c texts reading slots facts number ≡ false → false ≡ fits c texts reading row
+  number_fails number marked fails = go (fits c texts reading row) refl
     where
       go : (b : Bool) → fits c texts reading row ≡ b → false ≡ fits c texts reading row
       go true e =
           let all = and-left (list_all (number_so c texts reading slots facts) asks.numbers) (list_all (so_in c texts reading row.slots) asks.rest) (asked_fits ∙ e) in
-          absurd (false≢true (sym fails ∙ AllPass-from_list_all (number_so c texts reading slots facts) asks.numbers all i 0 within))
+          let apart = is.mask (number_so c texts reading slots facts) (2 ^ number) (λ j passes. pow_apart number j (λ same. false≢true (sym fails ∙ ap (number_so c texts reading slots facts) same ∙ passes))) all in
+          absurd (omega (arith, marked, not_shared asks.mask number (and_comm asks.mask (2 ^ number) ∙ apart)))
       go false e = sym e
 
   -- a row that needs an offer which is missing does not fit

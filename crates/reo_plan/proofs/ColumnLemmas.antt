@@ -78,7 +78,7 @@ module _ (word place : ℕ) (small : word < 2 ^ 64) where
       absurd (omega (arith, some, none)))
       (cases_lt (place + i) 64)
 
-above_none : (n : ℕ) → (n ≡ 0 → ⊥) → 0 < n
+pub above_none : (n : ℕ) → (n ≡ 0 → ⊥) → 0 < n
 above_none zero some = absurd (some refl)
 above_none (suc n) some = omega arith
 

@@ -1,12 +1,10 @@
 -- Offers that firings need, and those that are missing.
-use Rattle.std.proofs.Common.{◌≡◌, ℕ, ◌%◌, ◌^◌, List, [], ◌∷◌, ◌++◌, map, Option, Some, None, is_some, Bool, true, false, cond, nat_eq, ◌&&◌, ◌||◌, refl, sym, ap, ◌∙◌}
+use Rattle.std.proofs.Common.{◌≡◌, ℕ, ◌%◌, List, [], ◌∷◌, ◌++◌, map, Option, Some, None, is_some, Bool, true, false, cond, nat_eq, ◌&&◌, ◌||◌, refl, sym, ap, ◌∙◌}
 use Rattle.std.specs.List.{list_all}
 use Rattle.std.specs.Option.{option_map_or, option_and_then}
 use Rattle.std.specs.Int.RustNames.{bit_and}
 use Rattle.std.proofs.Math.Bool.{or-true, and-false}
 use Rattle.std.proofs.lemmas.Bool.{false≢true, eqb-true, eq-eqb}
-use Rattle.std.specs.Int.Bits.{and_zero_r}
-use Rattle.std.proofs.lemmas.Nat.{and_assoc, and_comm}
 use Rattle.reo_net.specs.declared.circuit.RawCircuit.{RawCircuit}
 use Rattle.reo_value.specs.declared.value.Value.{Value}
 use Rattle.reo_fabric.specs.Entry.{at_place}
@@ -72,7 +70,3 @@ pub needs_more : (c : RawCircuit) (slots : List Giver) (facts : List Fact) (fact
 needs_more c slots facts fact needs new is more texts reading word misses all =
     let each = both (list_all (so_in c texts reading slots) facts) (so_in c texts reading slots fact) (sym (all-append (so_in c texts reading slots) facts (fact ∷ [])) ∙ all) in
     more texts reading word misses each.1 (is texts reading word misses each.0)
-
--- a bit that a word has not, it has not with fewer bits
-pub none_kept : (a b j : ℕ) → bit_and a (2 ^ j) ≡ 0 → bit_and (bit_and a b) (2 ^ j) ≡ 0
-none_kept a b j none = ap (λ n. bit_and n (2 ^ j)) (and_comm a b) ∙ and_assoc (2 ^ j) b a ∙ ap (bit_and b) none ∙ and_zero_r b

@@ -1,5 +1,5 @@
 //! What the firings of a region ask, by the numbers of the facts that they share.
-ghost use Rattle.std.specs.Prelude.{◌≡◌, ℕ, ◌+◌, ◌<◌, List, ◌∷◌, [], ◌++◌, length, drop, slice_get, Some, IfOk, IfSome, OnOk, Bool, true, ◌&&◌};
+ghost use Rattle.std.specs.Prelude.{◌≡◌, ℕ, ◌+◌, ◌<◌, List, ◌∷◌, [], ◌++◌, length, drop, slice_get, Some, All, IfOk, IfSome, OnOk, Bool, true, ◌&&◌};
 ghost use Rattle.std.specs.Bool.{OnTrue};
 ghost use Rattle.std.specs.List.{list_all};
 ghost use Rattle.reo_net.specs.declared.circuit.RawCircuit.{RawCircuit};
@@ -12,7 +12,7 @@ use crate::columns::columns_of;
 use crate::facts::is_same;
 use crate::marks::mask_of;
 use crate::needs::needs_of;
-use crate::row::Row;
+use crate::row::{Row, room_for};
 use crate::slots::{Givers, giver_at, slot_of};
 use reo_flow::{Fact, Giver};
 use sqlite_items::Items;
@@ -117,7 +117,7 @@ pub(crate) fn presence_first(
 ) -> Result<Items<Fact>, AllocError>
     ensures { IfOk result (λ sorted. (c : RawCircuit) (texts : List (List ℕ)) (reading : AnyReading) → list_all (so_in c texts reading slots.now) sorted ≡ list_all (so_in c texts reading slots.now) facts.now) }
 {
-    let mut first = Items::new(alloc);
+    let mut first = room_for(alloc, facts.len())?;
     let mut second = Items::new(alloc);
     for place in 0..facts.len() {
         if !is_told_by_next(slots, facts, place) {
@@ -165,13 +165,14 @@ fn shared_fact(own: &[Giver], slots: &mut Items<Giver>, fact: Fact) -> Result<Fa
     }
 }
 
-/// The number of this fact, if there is one.
+/// The number of this fact among the first 64, if there is one.
 fn found_fact(facts: &[Fact], fact: Fact) -> Option<u32>
-    ensures { IfSome result (λ number. slice_get facts.now number ≡ Some fact) }
+    ensures found { IfSome result (λ number. slice_get facts.now number ≡ Some fact) }
+    ensures small { IfSome result (λ number. number < 64) }
 {
     for number in 0..facts.len() {
-        if is_same(&facts[number], fact) {
-            return u32::try_from(number).ok();
+        if number < 64 && is_same(&facts[number], fact) {
+            return Some(number as u32);
         }
     }
     None
@@ -181,6 +182,7 @@ fn found_fact(facts: &[Fact], fact: Fact) -> Option<u32>
 fn number_of(facts: &mut Items<Fact>, fact: Fact) -> Result<Option<u32>, AllocError>
     ensures more { OnOk result (Extends facts.old facts.new) }
     ensures number { IfOk result (λ found. IfSome found (λ number. slice_get facts.new number ≡ Some fact)) }
+    ensures small { IfOk result (λ found. IfSome found (λ number. number < 64)) }
 {
     if let Some(number) = found_fact(facts.as_slice(), fact) {
         return Ok(Some(number));
@@ -204,6 +206,7 @@ fn shared_number(
     ensures slots { OnOk result (AreMore slots.old slots.new) }
     ensures facts { OnOk result (Extends facts.old facts.new) }
     ensures number { IfOk result (λ found. IfSome found (λ number. (c : RawCircuit) → IsNumbered c own.now fact slots.new facts.new number)) }
+    ensures small { IfOk result (λ found. IfSome found (λ number. number < 64)) }
 {
     if slots.len() >= 256 {
         return Ok(None);
@@ -225,6 +228,7 @@ fn add_ask(
     ensures slots { OnOk result (AreMore slots.old slots.new) }
     ensures facts { OnOk result (Extends facts.old facts.new) }
     ensures asks { OnOk result ((c : RawCircuit) (done : List AnyFact) → HasAsks c slots.old facts.old own.now done numbers.old rest.old → HasAsks c slots.new facts.new own.now (done ++ fact ∷ []) numbers.new rest.new) }
+    ensures small { OnOk result (All (λ number. number < 64) numbers.old → All (λ number. number < 64) numbers.new) }
 {
     match shared_number(own, slots, facts, fact)? {
         Some(number) => numbers.push(number),
@@ -245,9 +249,9 @@ fn asks_of(
     ensures asks { IfOk result (λ asks. (c : RawCircuit) → IsAsks c slots.new facts.new row.now asks) }
 {
     let own = row.slots.as_slice();
-    let mut numbers = Items::new(alloc);
-    let mut rest = Items::new(alloc);
     let asked = row.facts.as_slice();
+    let mut numbers = room_for(alloc, asked.len())?;
+    let mut rest = Items::new(alloc);
     for fact in asked {
         add_ask(own, slots, facts, &mut numbers, &mut rest, *fact)?;
     }

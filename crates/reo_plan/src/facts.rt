@@ -11,6 +11,7 @@ ghost use Rattle.reo_plan.specs.inside.Cells.{cell_numbers};
 ghost use Rattle.reo_plan.specs.inside.Rows.{slot_in, end_fact, a_fact, own_fact, slot_facts};
 
 use crate::givers::cell_number;
+use crate::row::room_for;
 use reo_flow::Fact;
 use reo_net::{Channel, Kind, Net};
 use sqlite_items::{Items, at};
@@ -134,7 +135,7 @@ fn add_own(facts: &mut Items<Fact>, own: Option<Fact>) -> Result<(), AllocError>
     ensures { OnOk result ((p : AnyFact → Bool) → list_all p facts.new ≡ (list_all p facts.old && list_all p (option_to_list own))) }
 {
     match own {
-        Some(fact) => add_fact(facts, fact),
+        Some(fact) => facts.push(fact),
         None => Ok(()),
     }
 }
@@ -168,7 +169,7 @@ pub(crate) fn facts_of(
     requires { cells.now ≡ cell_numbers net.now }
     ensures { IfOk result (λ facts. (p : AnyFact → Bool) → list_all p facts ≡ list_all (λ name. list_all p (slot_facts net.now table.now name)) names.now) }
 {
-    let mut facts = Items::new(alloc);
+    let mut facts = room_for(alloc, names.len())?;
     for name in names {
         add_name(&mut facts, net, cells, table, *name)?;
     }

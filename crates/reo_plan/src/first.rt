@@ -10,7 +10,7 @@ ghost use Rattle.reo_plan.specs.inside.Plans.{fits};
 use crate::asks::{Asks, Shared};
 use crate::columns::{RuledOut, next_row, none_out, rule_out};
 use crate::evaluate::is_so;
-use crate::marks::{Marks, is_known, mark, no_marks};
+use crate::marks::{Marks, is_known, lowest, mark, no_marks, unmarked, without_bit};
 use crate::needs::unoffered;
 use crate::row::Row;
 use crate::sources::Words;
@@ -176,12 +176,16 @@ fn fits_or_rules_out(
     }
     let slots = shared.slots.as_slice();
     let facts = shared.facts.as_slice();
-    let numbers = asks.numbers.as_slice();
-    for number in numbers {
-        if !found_so(net, texts, reading, slots, facts, marks, *number) {
-            rule_out(out, shared.columns.as_slice(), *number);
+    let mut left = unmarked(marks.met, asks.mask);
+    while left != 0 {
+        let number = lowest(left);
+        let is_so = number_so(net, texts, reading, slots, facts, number);
+        mark(marks, number, is_so);
+        if !is_so {
+            rule_out(out, shared.columns.as_slice(), number);
             return false;
         }
+        left = without_bit(left, number);
     }
     true
 }

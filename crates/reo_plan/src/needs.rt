@@ -7,7 +7,7 @@ ghost use Rattle.reo_plan.specs.inside.Asks.{so_in, IsNeeds};
 ghost use Rattle.reo_plan.specs.inside.Marks.{Misses};
 ghost use Rattle.reo_plan.specs.inside.Needs.{offers_at, some_offer};
 
-use crate::marks::{bit, with_bit};
+use crate::marks::{with_bit, without_bit};
 use crate::slots::giver_at;
 use reo_flow::{Fact, Giver};
 
@@ -34,15 +34,6 @@ pub(crate) fn needs_of(slots: &[Giver], facts: &[Fact]) -> u64
         needs = with_need(needs, slots, fact);
     }
     needs
-}
-
-/// The word without the bit of this number.
-fn without_bit(word: u64, number: u32) -> u64
-    requires { number < 64 }
-    ensures own { bit_and result (2 ^ number) ≡ 0 }
-    ensures others { (j : ℕ) → bit_and word (2 ^ j) ≡ 0 → bit_and result (2 ^ j) ≡ 0 }
-{
-    word & !bit(number)
 }
 
 /// The bits without that of a port, where something is offered there.

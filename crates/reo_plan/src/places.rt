@@ -10,6 +10,7 @@ ghost use Rattle.reo_plan.specs.inside.Givers.{giver_in, AreTold};
 
 use crate::facts::slot_in;
 use crate::givers::cell_number;
+use crate::row::room_for;
 use crate::slots::{Givers, slot_of};
 use reo_flow::Giver;
 use reo_net::{Channel, Net, Port};
@@ -140,7 +141,7 @@ pub(crate) fn named_slots(
 ) -> Result<Items<(u32, u32)>, AllocError>
     ensures { IfOk result (λ named. named ≡ named_slots table.now names.now) }
 {
-    let mut named = Items::new(alloc);
+    let mut named = room_for(alloc, names.len())?;
     for name in names {
         add_place(&mut named, Some(*name), slot_in(table, *name))?;
     }

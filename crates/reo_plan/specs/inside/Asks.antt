@@ -1,5 +1,5 @@
 -- What firings ask, by the numbers of the facts that they share: each fact has its datum in a slot that they share too.
-use Rattle.std.specs.Prelude.{◌≡◌, ℕ, List, [], ◌∷◌, slice_get, Bool, true, false, ◌&&◌}
+use Rattle.std.specs.Prelude.{◌≡◌, ℕ, ◌<◌, All, List, [], ◌∷◌, slice_get, Bool, true, false, ◌&&◌}
 use Rattle.std.specs.List.{list_all}
 use Rattle.std.specs.Int.RustNames.{bit_and}
 use Rattle.std.specs.Option.{option_map_or}
@@ -14,7 +14,7 @@ use Rattle.reo_plan.specs.declared.row.Row.{Row}
 use Rattle.reo_plan.specs.declared.asks.Asks.{Asks}
 use Rattle.reo_plan.specs.declared.asks.Shared.{Shared}
 use Rattle.reo_plan.specs.inside.Slots.{slot_at, slot_value, Extends}
-use Rattle.reo_plan.specs.inside.Marks.{Misses, IsMask}
+use Rattle.reo_plan.specs.inside.Marks.{Misses, IsMask, IsMarked}
 use Rattle.reo_plan.specs.inside.Columns.{AreColumns}
 use Rattle.reo_plan.specs.inside.Needs.{some_offer}
 
@@ -75,6 +75,8 @@ IsNeeds c slots facts needs =
 pub record IsAsks (c : RawCircuit) (slots : List Giver) (facts : List Fact) (row : Row) (asks : Asks) : Type 0 where
   pub has : HasAsks c slots facts row.slots row.facts asks.numbers asks.rest
   pub mask : IsMask asks.numbers asks.mask
+  pub marked : IsMarked asks.numbers asks.mask
+  pub small : All (λ number. number < 64) asks.numbers
   pub needs : IsNeeds c row.slots row.facts asks.needs
 
 abbrev pub AreAsks : RawCircuit → List Giver → List Fact → List Row → List Asks → Type 0
