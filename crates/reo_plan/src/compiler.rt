@@ -53,6 +53,16 @@ fn row_with(
     })
 }
 
+/// Notes of each of these names its place among them: a guess for who asks for it later.
+fn note_places(places: &mut Vec<usize>, names: &[u32]) {
+    for place in 0..names.len() {
+        let name = names[place] as usize;
+        if name < places.len() {
+            places[name] = place;
+        }
+    }
+}
+
 /// The row of the firing with these names, by a table that is empty, and is empty again then.
 pub(crate) fn row_of(
     alloc: Global,
@@ -60,6 +70,7 @@ pub(crate) fn row_of(
     numbers: &[u32],
     names: &[u32],
     table: &mut Vec<Option<u32>>,
+    places: &mut Vec<usize>,
 ) -> Result<Row, AllocError>
     requires numbers { numbers.now ≡ cell_numbers net.now }
     requires names { IsOfNames net.now names.now }
@@ -70,7 +81,9 @@ pub(crate) fn row_of(
     let incoming = incoming_of(alloc, net, names)?;
     let incoming = incoming.as_slice();
     let known = givers_of(alloc, net, numbers, names, incoming)?;
-    let givers = Givers::Names(net, numbers, names, incoming, known.as_slice());
+    note_places(places, names);
+    let known = known.as_slice();
+    let givers = Givers::Names(net, numbers, names, incoming, known, places.as_slice());
     let mut slots = Items::new(alloc);
     fill_slots(net, &givers, names, &mut slots, table)?;
     let row = row_with(alloc, net, numbers, names, table.as_slice(), slots)?;
@@ -85,6 +98,7 @@ fn rows_of(
     numbers: &[u32],
     firings: &[Firing],
     table: &mut Vec<Option<u32>>,
+    places: &mut Vec<usize>,
 ) -> Result<Items<Row>, AllocError>
     requires numbers { numbers.now ≡ cell_numbers net.now }
     requires names { All (λ firing. IsOfNames net.now firing.names) firings.now }
@@ -94,7 +108,7 @@ fn rows_of(
 {
     let mut rows = Items::new(alloc);
     for firing in firings {
-        let row = row_of(alloc, net, numbers, firing.names.as_slice(), table)?;
+        let row = row_of(alloc, net, numbers, firing.names.as_slice(), table, places)?;
         rows.push(row)?;
     }
     Ok(rows)
@@ -116,9 +130,17 @@ pub(crate) fn plans_of(
 {
     let _ = cells;
     let mut slots = vec![in alloc; None; net.names() as usize]?;
+    let mut places = vec![in alloc; 0; net.names() as usize]?;
     let mut plans = Items::new(alloc);
     for table in tables {
-        let rows = rows_of(alloc, net, numbers, table.firings.as_slice(), &mut slots)?;
+        let rows = rows_of(
+            alloc,
+            net,
+            numbers,
+            table.firings.as_slice(),
+            &mut slots,
+            &mut places,
+        )?;
         plans.push(rows)?;
     }
     Ok(plans)

@@ -264,6 +264,7 @@ pub(crate) fn known_giver(
     names: &[u32],
     incoming: &[(u32, u32)],
     known: &[Giver],
+    places: &[usize],
     name: u32,
 ) -> Giver
     requires incoming { incoming.now ≡ incoming_of net.now names.now }
@@ -271,7 +272,8 @@ pub(crate) fn known_giver(
     requires known { known.now ≡ map (giver_of net.now names.now) names.now }
     ensures { result ≡ giver_of net.now names.now name }
 {
-    match giver_at_place(net, names, known, name as usize, name) {
+    let guess = at(places, name as usize).copied().unwrap_or(0);
+    match giver_at_place(net, names, known, guess, name) {
         Some(giver) => giver,
         None => found_giver(net, cells, names, incoming, known, name),
     }

@@ -12,11 +12,11 @@ use std::alloc::{AllocError, Global};
 
 /// Where data come from: those in slots, or those at a circuit's names, in a firing with these names. A name's giver is found
 /// when it is asked for, by the circuit, the numbers of its cells, the firing's names, those that come into nodes, and the
-/// givers of the firing's names.
+/// givers of the firing's names; and guesses of the names' places among them.
 #[derive(Drop)]
 pub(crate) enum Givers<'a> {
     Slots(&'a [Giver]),
-    Names(&'a Net, &'a [u32], &'a [u32], &'a [(u32, u32)], &'a [Giver]),
+    Names(&'a Net, &'a [u32], &'a [u32], &'a [(u32, u32)], &'a [Giver], &'a [usize]),
 }
 
 fn same(x: &Giver, y: Giver) -> bool
@@ -73,8 +73,8 @@ pub(crate) fn giver_in(givers: &Givers<'_>, name: u32) -> Giver
 {
     match givers {
         Givers::Slots(slots) => giver_at(slots, name),
-        Givers::Names(net, cells, names, incoming, known) => {
-            known_giver(net, cells, names, incoming, known, name)
+        Givers::Names(net, cells, names, incoming, known, places) => {
+            known_giver(net, cells, names, incoming, known, places, name)
         }
     }
 }

@@ -9,9 +9,9 @@ use Rattle.reo_plan.specs.inside.Cells.{cell_numbers, incoming_of}
 
 abbrev pub giver_in : Givers → ℕ → Giver
 giver_in (Slots slots) = slot_at slots.now
-giver_in (Names net cells names incoming known) = giver_of net.now names.now
+giver_in (Names net cells names incoming known places) = giver_of net.now names.now
 
 -- the lists beside a circuit and names are those of the circuit and the names
 abbrev pub AreTold : Givers → Type 0
 AreTold (Slots slots) = Unit {0}
-AreTold (Names net cells names incoming known) = (cells.now ≡ cell_numbers net.now) × (incoming.now ≡ incoming_of net.now names.now) × (known.now ≡ map (giver_of net.now names.now) names.now)
+AreTold (Names net cells names incoming known places) = (cells.now ≡ cell_numbers net.now) × (incoming.now ≡ incoming_of net.now names.now) × (known.now ≡ map (giver_of net.now names.now) names.now)
